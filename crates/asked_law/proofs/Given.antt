@@ -1,8 +1,10 @@
 -- The step in which an answer is accepted.
 use Rattle.std.proofs.Common.{◌≡◌, ◌⊎◌, inl, inr, ◌==◌, ◌≤◌, ℕ, Bool, true, false, cond, List, [], ◌∷◌, length, Option, Some, None, option_map, Result, Ok, Err, is_err, refl, sym, ap, subst, arith, eqb-true, true≢false}
+use Rattle.std.proofs.lemmas.Bool.{cond_both}
 use Rattle.std.specs.List.{AllByRecursion}
 use Rattle.arrayvec.specs.ArrayVec.{ArrayVec}
-use Rattle.rpc_core.specs.Cache.{looked}
+use Rattle.pn_values.specs.IpSuite.{is_zero}
+use Rattle.asked_records.specs.Questions.{operation_of}
 use Rattle.settings_journal.specs.settings_store.Machine.{Outcome}
 use Rattle.asked_records.specs.Answers.{Gives, gives_octets, gives_done, gives_refusal, answer_blocks, answer_status, fault_of, judged, judged_with, question_unless}
 use Rattle.asked_records.specs.Asked.{AskedState, Standing, question_in}
@@ -15,7 +17,7 @@ use Rattle.device_frames.specs.declared.local.Local.TheVariants as local
 use Rattle.device_frames.specs.Heard.{Heard, Applied, Ticks, Unreadable, Elsewhere, Asks, Resolves, Reported, Cyclic, Alarms, LowReplies, LowConfirms, Met}
 use Rattle.device_frames.specs.Relation.{where_due}
 use Rattle.device_frames.specs.Sent.{Sent}
-use Rattle.device_core.specs.Asking.{is_new, reply_to}
+use Rattle.device_core.specs.Asking.{is_kept, is_new, looked_if, reply_to}
 use Rattle.device_core.specs.Handled.{Handled, handled, handled_judged}
 use Rattle.device_core.specs.Local.{IsReplyTo}
 use Rattle.device_core.specs.Machine.{handled_step, heard_step}
@@ -80,8 +82,14 @@ judged_settles : (station : Station) (live : Live) (outcomes : List Outcome) (gi
 unfolding handled_step
 judged_settles station live outcomes given question =
     let reply = reply_to live.values.running.suite.address question (answer_status question.request given) (answer_blocks question.request given) in
-    let is_due = is_new (looked question.header.activity question.header.sequence live.rest.calls) in
-    record { settles = refl; one = reply_one is_due reply; sends = reply_sends is_due question reply (refl, refl) }
+    let is_due = is_new (looked_if (is_kept station.options (operation_of question.request)) question.header.activity question.header.sequence live.rest.calls) in
+    let none = is_zero live.values.running.suite.address in
+    record {
+      settles = refl;
+      one = cond_both none [] (where_due is_due (reply ∷ [])) (λ (sent : List Sent). length sent ≤ 1) (λ _. omega arith) (λ _. reply_one is_due reply);
+      sends = cond_both none [] (where_due is_due (reply ∷ [])) (λ (sent : List Sent). AllByRecursion (IsReplyTo question) sent) (λ _. tt)
+          (λ _. reply_sends is_due question reply (refl, refl));
+    }
 
 accepted_settles : (station : Station) (live : Live) (outcomes : List Outcome) (number : ℕ) (given : Gives) (accepted : IsAccepted live.rest.asked number given)
     → Settles station live outcomes accepted.question (handled_judged station live given (judged number given live.rest.asked))

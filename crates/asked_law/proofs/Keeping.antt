@@ -13,9 +13,8 @@ pub record Keeps (before after : AskedState) : Type 0 where
   pub last : after.last ≡ before.last
   pub question : (question_in after ≡ question_in before) ⊎ (question_in after ≡ None)
 
--- A call that is heard is asked under the next number, if no other one was.
+-- A call that is heard is asked under the next number, if no other one was, or the other one gives way.
 pub record Begins (heard : Heard) (before after : AskedState) : Type 0 where
-  pub none : before.standing ≡ None
   pub last : after.last ≡ next_number before.last
   pub question : Question
   pub asked : question_in after ≡ Some question

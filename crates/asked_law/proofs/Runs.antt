@@ -84,9 +84,8 @@ keeps_rises before after keeps = by_question keeps.question
 begins_rises : (heard : Heard) (before after : AskedState) → before.last < 4294967295 → Begins heard before after → Rises before after
 begins_rises heard before after few begins =
     let next = below_next before.last few in
-    let was = ap (λ (s : Option Standing). open_with before.last s) begins.none in
     let is = open_some after.last after.standing begins.question begins.asked in
-    record { opens = omega (arith, was, is, begins.last, next); last = omega (arith, begins.last, next) }
+    record { opens = omega (arith, open_most before.last before.standing, is, begins.last, next); last = omega (arith, begins.last, next) }
 
 goes_rises : (heard : Heard) (before after : AskedState) → before.last < 4294967295 → Goes heard before after → Rises before after
 goes_rises heard before after few (inl keeps) = keeps_rises before after keeps
@@ -103,7 +102,8 @@ given_opens station live step number given (inl keeps) =
     let was = open_some live.rest.asked.last live.rest.asked.standing given.question given.asked in
     let is = ap (λ (s : Option Standing). open_with (after_step station live step).rest.asked.last s) given.settles in
     (was ∙ given.numbered, omega (arith, is, keeps.last, given.numbered), keeps.last ∙ given.numbered)
-given_opens station live step number given (inr begins) = absurd (none_standing live.rest.asked given.question given.asked begins.none)
+given_opens station live step number given (inr begins) =
+    absurd (none_standing (after_step station live step).rest.asked begins.question begins.asked given.settles)
 
 -- A step before a run.
 step_ascends : (station : Station) (step : Step) (steps : List Step) (live : Live) → live.rest.asked.last + (length steps + 1) ≤ 4294967295

@@ -12,7 +12,7 @@ use Rattle.dcp_core.specs.Request.{Asked}
 use Rattle.dcp_core.specs.Identify.{matches}
 use Rattle.dcp_core.specs.Set.{plan_of}
 use Rattle.rpc_core.specs.Call.{Asked as Call}
-use Rattle.rpc_core.specs.Cache.{Reported as Looked, new, again, old, looked}
+use Rattle.rpc_core.specs.Cache.{Reported as Looked, new, again, old}
 use Rattle.rpc_core.specs.Response.{Answered}
 use Rattle.records.specs.declared.status.operation.Operation.{Operation}
 use Rattle.records.specs.declared.status.operation.Operation.TheVariants.{Connect, Release, Read, Write, Control, ReadImplicit}
@@ -55,7 +55,7 @@ use Rattle.relations.specs.Timers.{due_of}
 use Rattle.relations.specs.Ready.{answer_of as ready_answer}
 use Rattle.frame_codec.specs.declared.udp.Caller.{Caller}
 use Rattle.asked_records.specs.Answers.{Gives, gives_octets, gives_done, gives_refusal, judged}
-use Rattle.asked_records.specs.Asked.{AskedState, Standing, asks_beside, is_repeat}
+use Rattle.asked_records.specs.Asked.{AskedState, Standing, asks_beside, displaced_by, is_repeat}
 use Rattle.asked_records.specs.declared.answering.AnswerFault.{AnswerFault}
 use Rattle.asked_records.specs.declared.names.RecordName.{RecordName}
 use Rattle.asked_records.specs.declared.question.Question.{Question}
@@ -67,8 +67,8 @@ use Rattle.device_frames.specs.declared.local.Local.TheVariants as local
 use Rattle.device_frames.specs.Heard.{Heard, Ticks, Unreadable, Elsewhere, Asks, Resolves, Reported, Cyclic, Alarms, LowReplies, LowConfirms, Met, Applied, Said, Calls, Responds, Garbled}
 use Rattle.device_core.specs.State.{Live, Station, alias_in}
 use Rattle.wire.specs.Codec.{◌>>=◌}
-use Rattle.device_core.specs.Asking.{Asking, asked_later, asking_of, asking_read, asking_write, ended_by, left_asked, question_of, released_by, write_within}
-use Rattle.device_core.specs.Handled.{Handled, change_of, handled, handled_alarm, handled_answer, handled_asking, handled_blocks, handled_call, handled_change, handled_effect, handled_input, handled_judged, handled_local, handled_looked, handled_low, handled_low_pdu, handled_modules, handled_notice, handled_own, handled_pdu, handled_plug_answer, handled_question, handled_received, handled_request, handled_response, handled_said, handled_unanswered, handled_write, is_request, is_running, kept_status, may_be_diagnosed, ticked, unit_sent}
+use Rattle.device_core.specs.Asking.{Asking, asked_later, asking_of, asking_read, asking_write, ended_by, is_kept, left_asked, looked_if, question_of, released_by, write_within}
+use Rattle.device_core.specs.Handled.{Handled, change_of, handled, handled_alarm, handled_answer, handled_asked, handled_asking, handled_blocks, handled_call, handled_change, handled_effect, handled_input, handled_judged, handled_local, handled_looked, handled_low, handled_low_pdu, handled_modules, handled_notice, handled_own, handled_pdu, handled_plug_answer, handled_question, handled_received, handled_request, handled_response, handled_said, handled_unanswered, handled_write, is_request, is_running, kept_status, may_be_diagnosed, ticked, unit_sent}
 use Rattle.device_core.specs.Machine.{farewell_at, finished, resets}
 use Rattle.device_core.specs.Modules.{outside, plug_of, pull_of, slot_pull_of}
 use Rattle.asked_law.specs.Once.{IsHeardCall}
@@ -164,17 +164,21 @@ module _ (station : Station) (live : Live) (answers : List BlockError) (heard : 
   own_asked caller call blocks Control = cond_both (is_plug_control blocks live.rest.link) _ _ AskedBy (λ _. stays) (λ _. stays)
   own_asked caller call blocks ReadImplicit = stays
 
-  -- A call is asked, if no other one is.
-  question_asked : (question : Question) (octets : List ℕ) → IsHeardCall heard question → (standing : Option Standing) → live.rest.asked.standing ≡ standing
-      → AskedBy (handled_question station live question (asks_beside question octets live.rest.asked standing))
-  question_asked question octets is None none = inr (record { none = none; last = refl; question = question; asked = refl; is = is })
-  question_asked question octets is (Some standing) some = stays
+  -- A call is asked, if no other one is, or the other one gives way.
+  question_asked : (question : Question) (octets : List ℕ) → IsHeardCall heard question → (standing : Option Standing)
+      → AskedBy (handled_question station live question None (asks_beside question octets live.rest.asked standing))
+  question_asked question octets is None = inr (record { last = refl; question = question; asked = refl; is = is })
+  question_asked question octets is (Some standing) = stays
+
+  displaced_asked : (asking : Asking) → IsHeardCall heard asking.0 → (displaced : Option Question) → AskedBy (handled_asked station live asking displaced)
+  displaced_asked asking is None = question_asked asking.0 asking.1 is live.rest.asked.standing
+  displaced_asked asking is (Some other) = inr (record { last = refl; question = asking.0; asked = refl; is = is })
 
   asking_asked : (caller : Caller) (call : Call) (blocks : List ℕ) (operation : Operation) (asking : Result (Option Asking) CallFault) → AsksOf caller call asking
       → ((question : Question) → IsOf caller call question → IsHeardCall heard question) → AskedBy (handled_asking station live caller call blocks operation asking)
   asking_asked caller call blocks operation (Ok None) of is = own_asked caller call blocks operation
   asking_asked caller call blocks operation (Ok (Some asking)) of is =
-      question_asked asking.0 asking.1 (is asking.0 of) live.rest.asked.standing refl
+      displaced_asked asking (is asking.0 of) (displaced_by station.options.asks_own_first asking.0 live.rest.asked)
   asking_asked caller call blocks operation (Err fault) of is = stays
 
   unanswered_asked : (caller : Caller) (call : Call) (blocks : List ℕ) (operation : Operation)
@@ -194,7 +198,7 @@ module _ (station : Station) (live : Live) (answers : List BlockError) (heard : 
       → ((question : Question) → IsOf caller call question → IsHeardCall heard question) → AskedBy (handled_blocks station live caller call operation blocks)
   blocks_asked caller call operation None is = stays
   blocks_asked caller call operation (Some blocks) is =
-      looked_asked caller call blocks operation (looked call.header.activity call.header.sequence live.rest.calls) is
+      looked_asked caller call blocks operation (looked_if (is_kept station.options operation) call.header.activity call.header.sequence live.rest.calls) is
 
   call_asked : (caller : Caller) (call : Call) (operation : Option Operation)
       → ((question : Question) → IsOf caller call question → IsHeardCall heard question) → AskedBy (handled_call station live caller call operation)

@@ -21,6 +21,7 @@ use Rattle.controller_messages.specs.declared.record_request.RecordService.TheVa
 use Rattle.controller_messages.specs.PlugRequests.{plug_blocks, plug_operation}
 use Rattle.controller_messages.specs.RecordRequests.{record_blocks, service_operation}
 use Rattle.asked_records.specs.Asked.{question_in}
+use Rattle.asked_records.specs.Questions.{is_implicit}
 use Rattle.asked_records.specs.declared.question.Question.{Question}
 use Rattle.connects.specs.requests.Request.{Request}
 use Rattle.records.specs.declared.writes.taken.TakenRecord.{TakenRecord}
@@ -303,10 +304,14 @@ module _ (priority : Priority) (setup : Setup) (station : Station) (live : Live)
     later_asked question is zero_is fresh =
         let reported : reported_by 0 (kept_of setup.activity live.rest.calls) ≡ new =
         ap (λ (n : ℕ). reported_by n (kept_of setup.activity live.rest.calls)) (sym zero_is)
-        ∙ (ap (λ (a : List ℕ). reported_by question.header.sequence (kept_of a live.rest.calls)) (sym (follows.own question is)) ∙ fresh) in
+        ∙ (ap (λ (a : List ℕ). reported_by question.header.sequence (kept_of a live.rest.calls)) (sym (follows.own question is).0) ∙ fresh) in
         let none : kept_at setup live ≡ None = ap (λ (k : Option Answer). option_map kept_in k) (new_none (kept_of setup.activity live.rest.calls) reported) in
         none_some question.header.sequence (small_of setup.activity live).asked (follows.unasked none)
         (ap (λ (o : Option Question). option_map (λ q. q.header.sequence) o) is)
+
+    -- no Read Implicit is asked
+    pub plain_asked : (question : Question) → question_in live.rest.asked ≡ Some question → is_implicit question.request ≡ true → ⊥
+    plain_asked question is implicit = false≢true (sym (follows.own question is).1 ∙ implicit)
 
     -- a relation that is made now is the first one, and that of the plan
     pub makes_planned : (after : Option RelationState) (messages : List Sent) (makes : Makes live.rest.calls live.rest.link heard after messages) → (kept_at setup live ≡ None) × (makes.request ≡ rules.request)

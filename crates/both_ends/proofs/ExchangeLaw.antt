@@ -92,7 +92,7 @@ use Rattle.both_ends.proofs.ExchangeTurns.{IsTurn, as_alarms, end_at}
 use Rattle.both_ends.proofs.ExchangeHeardAlarm.{alarm_holds}
 use Rattle.both_ends.proofs.ExchangeLowTied.{low_turn_on, reported_same}
 use Rattle.both_ends.proofs.ExchangeTied.{Goes, IsFresh, IsHeard, IsSaid, IsTied, IsUnraised, raise_on, turn_on}
-use Rattle.both_ends.proofs.ExchangeFollows.{Follows, IsEventIn, IsIn, controller_follows, device_follows, kept_at, makes_fresh, later_asked, makes_planned, taken_at, unlinked, unlinked_new}
+use Rattle.both_ends.proofs.ExchangeFollows.{Follows, IsEventIn, IsIn, controller_follows, device_follows, kept_at, makes_fresh, later_asked, makes_planned, plain_asked, taken_at, unlinked, unlinked_new}
 
 -- ---- what a controller hears of its device
 
@@ -344,7 +344,8 @@ module _ {F : Type 0} where
           let own = so.owns rules setup.activity outcomes station live heard meant.planned follows.own in
           let serves = all_served setup station live heard step.live.rest step.sent meant.planned
           (unlinked_new priority setup station live before.controller.live before.sent raised taken follows heard meant.planned first late)
-          (later_asked priority setup station live before.controller.live before.sent raised taken follows heard meant.planned first late) acts.does in
+          (later_asked priority setup station live before.controller.live before.sent raised taken follows heard meant.planned first late)
+          (plain_asked priority setup station live before.controller.live before.sent raised taken follows heard meant.planned first late) acts.does in
           let all : Follows priority setup station step.live before.controller.live (before.sent ++ step.frames) (raised ++ now) taken =
           device_follows priority setup station live before.controller.live before.sent raised taken follows heard meant.planned first late outcomes now
           (so.goes_on rules setup.activity outcomes station live heard follows.orderly follows.own meant.planned heard_so) owes

@@ -58,4 +58,5 @@ module _ (station : Station) (live : Live) (heard : Heard) (after : Rest) (sent 
   stated_made (inr (inr (inr (inr (inl it))))) = by_effect it.caller it.blocks it.outcome it.which it.effect
   stated_made (inr (inr (inr (inr (inr (inl it)))))) = none_after (ap (λ (r : Rest). r.link) it.becomes ∙ alone)
   stated_made (inr (inr (inr (inr (inr (inr (inl it))))))) = none_after (ap (λ (r : Rest). r.link) it.becomes ∙ alone)
-  stated_made (inr (inr (inr (inr (inr (inr (inr it))))))) = none_after (kept_none it.link)
+  stated_made (inr (inr (inr (inr (inr (inr (inr (inl it)))))))) = none_after (kept_none it.link)
+  stated_made (inr (inr (inr (inr (inr (inr (inr (inr it)))))))) = none_after (kept_none it.link)

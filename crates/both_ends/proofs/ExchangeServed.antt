@@ -19,6 +19,7 @@ use Rattle.relations.specs.Connect.{connect_blocks, connect_of, differing_of}
 use Rattle.relations.specs.Numbers.{IsNumber}
 use Rattle.device_frames.specs.Heard.{Heard, Reported, Calls}
 use Rattle.asked_records.specs.Asked.{question_in}
+use Rattle.asked_records.specs.Questions.{is_implicit}
 use Rattle.asked_records.specs.declared.question.Question.{Question}
 use Rattle.device_frames.specs.Sent.{Sent, Exchanges, CallAnswer, Again}
 use Rattle.device_core.specs.State.{Station, Live, Rest}
@@ -111,7 +112,8 @@ module _ (setup : Setup) (station : Station) (live : Live) where
       → looked call.header.activity call.header.sequence live.rest.calls ≡ new
       → (live.rest.link ≡ None) × (heard_as (is_planned setup) heard ≡ small.Call call.header.sequence small.Accesses → ⊥))
       (later : (question : Question) → question_in live.rest.asked ≡ Some question → question.header.sequence ≡ 0
-      → looked question.header.activity question.header.sequence live.rest.calls ≡ new → ⊥) where
+      → looked question.header.activity question.header.sequence live.rest.calls ≡ new → ⊥)
+      (plain : (question : Question) → question_in live.rest.asked ≡ Some question → is_implicit question.request ≡ true → ⊥) where
     silent_served : (messages : List Sent) → sent ≡ messages → AreServed messages → AreServed sent
     silent_served messages is all = subst (λ (those : List Sent). AreServed those) (sym is) all
 
@@ -142,6 +144,7 @@ module _ (setup : Setup) (station : Station) (live : Live) where
     all_served (inr (inr (inr (inr (inl it))))) = call_served it
     all_served (inr (inr (inr (inr (inr (inl it)))))) = silent_served [] it.silent tt
     all_served (inr (inr (inr (inr (inr (inr (inl it))))))) = silent_served _ it.sends ((λ chooses zero_is done. empty_well), tt)
-    all_served (inr (inr (inr (inr (inr (inr (inr it))))))) =
+    all_served (inr (inr (inr (inr (inr (inr (inr (inr it)))))))) = absurd (plain it.question it.asked it.implicit)
+    all_served (inr (inr (inr (inr (inr (inr (inr (inl it)))))))) =
         silent_served _ it.sends (each_behind IsServed it.first _ (others_served after.link it.first it.others)
         ((λ chooses zero_is done. absurd (later it.question it.asked zero_is it.fresh)), tt))

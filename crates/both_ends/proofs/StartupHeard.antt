@@ -29,6 +29,7 @@ use Rattle.rpc_core.specs.Sendable.{CanBeAnswered, CanBeCalled, IsUuid}
 use Rattle.connect_blocks.specs.declared.control.ControlBlock.{ControlBlock}
 use Rattle.connects.specs.requests.Request.{Request as Asked_for}
 use Rattle.asked_records.specs.Asked.{AskedState, question_in}
+use Rattle.asked_records.specs.Questions.{is_implicit}
 use Rattle.asked_records.specs.declared.question.Question.{Question}
 use Rattle.records.specs.status.Operation.{operation_of}
 use Rattle.pn_alarms.specs.declared.fault.AlarmFault.{AlarmFault}
@@ -229,11 +230,12 @@ known_caller setup caller call (inl own) = own.caller_is
 known_caller setup caller call (inr (inl access)) = access.caller_is
 known_caller setup caller call (inr (inr plugged)) = plugged.caller_is
 
--- what is asked of the application is such a call
+-- what is asked of the application is such a call, and no Read Implicit
 pub record IsKnownQuestion (setup : Setup) (question : Question) : Type 0 where
   pub call : Call
   pub known : IsKnownCall setup question.caller call
   pub header : question.header ≡ call.header
+  pub plain : is_implicit question.request ≡ false
 
 abbrev pub IsKnownAsked : Setup → AskedState → Type 0
 IsKnownAsked setup asked = (question : Question) → question_in asked ≡ Some question → IsKnownQuestion setup question

@@ -1,16 +1,22 @@
 -- The invariant of a world at each point of a run from its start: each frame that was ever sent is known, and so is
 -- each message that is sent next.
-use Rattle.std.proofs.Common.{◌≡◌, ◌⊎◌, inl, inr, ℕ, List, [], ◌∷◌, ◌++◌, map, Option, Some, None, option_map, Ok, refl, sym, ap, subst, ◌∙◌, append-nil, append_assoc}
+use Rattle.std.proofs.Common.{◌≡◌, ◌⊎◌, inl, inr, ℕ, false, List, [], ◌∷◌, ◌++◌, map, Option, Some, None, option_map, Ok, refl, sym, ap, subst, ◌∙◌, append-nil, append_assoc}
 use Rattle.std.specs.Prelude.{slice_get}
 use Rattle.std.specs.List.{AllByRecursion}
 use Rattle.lldp.specs.Views.{peer_as}
 use Rattle.flash_model.specs.declared.flash.Flash.{Ghosts as Flash}
 use Rattle.settings_journal.specs.settings_store.Machine.{Outcome}
 use Rattle.pn_values.specs.declared.identity.Identity.{Identity}
+use Rattle.pn_values.specs.declared.real.Real.{Real}
 use Rattle.rpc_core.specs.declared.header.CallHeader.{CallHeader}
 use Rattle.rpc_core.specs.Cache.{Kept as Answer, kept_of}
 use Rattle.asked_records.specs.Asked.{AskedState, question_in}
+use Rattle.asked_records.specs.Questions.{is_implicit, operation_of as operation_asked}
+use Rattle.asked_records.specs.declared.names.RecordName.{RecordName}
 use Rattle.asked_records.specs.declared.question.Question.{Question}
+use Rattle.asked_records.specs.declared.question.Request.{Request as Wanted}
+use Rattle.asked_records.specs.declared.question.Request.TheVariants as wanted
+use Rattle.records.specs.declared.status.operation.Operation.{Operation}
 use Rattle.connects.specs.requests.Request.{Request}
 use Rattle.connects.specs.requests.Handled.{request_of}
 use Rattle.plans.specs.Connect.{connect_of}
@@ -42,7 +48,7 @@ use Rattle.end_laws.specs.both.Steps.{DeviceSteps, IsDull, Steps}
 use Rattle.end_laws.specs.controller.Small.{IsSteady, small_of}
 use Rattle.end_laws.specs.device.Orderly.{IsOrderlyIn}
 use Rattle.end_laws.specs.device.Owed.{IsAsking, IsOfKept, IsOwed}
-use Rattle.end_laws.specs.device.Small.{IsAskedOwn, heard_as, kept_in, link_of}
+use Rattle.end_laws.specs.device.Small.{IsAskedOwn, IsPlanned, IsPlannedAs, IsPlannedCall, heard_as, kept_in, link_of}
 use Rattle.end_laws.specs.device.Small as device
 use Rattle.both_ends.specs.startup.View.{IsMeant, IsMeantAtController, IsMeantAtDevice, move_of, rules_of, says_to_device, view_of}
 use Rattle.both_ends.specs.startup.Played.{AreMeant, ArePlaced, AreUnnamed, Begins, CanMeet, viewed}
@@ -104,7 +110,20 @@ kept_known rules P small.Idle before after frames (inr replies) was all answer i
 pub known_own : (setup : Setup) (asked : AskedState) → IsKnownAsked setup asked → IsAskedOwn setup.activity asked
 known_own setup asked known question is =
     let own = known question is in
-    ap (λ (h : CallHeader). h.activity) own.header ∙ known_activity setup question.caller own.call own.known
+    (ap (λ (h : CallHeader). h.activity) own.header ∙ known_activity setup question.caller own.call own.known, own.plain)
+
+-- no call that is planned is a Read Implicit
+planned_plain : (rules : Rules TakenRecord Request) (activity : List ℕ) (named : List RecordName) (real : Real) (heard : Heard) (question : Question)
+    → IsPlanned rules activity named real heard → IsAsking heard question → is_implicit question.request ≡ false
+planned_plain rules activity named real heard question planned asks =
+    let plan : IsPlannedCall rules activity named real asks.call = subst (λ (h : Heard). IsPlanned rules activity named real h) asks.is planned in
+    by_request asks.call.header.sequence plan.blocks question.request (subst (λ (o : Option Operation). IsPlannedAs rules named real asks.call.header.sequence plan.blocks o) asks.asks plan.asks)
+  where
+    by_request : (sequence : ℕ) (blocks : List ℕ) (request : Wanted) → IsPlannedAs rules named real sequence blocks (Some (operation_asked request))
+        → is_implicit request ≡ false
+    by_request sequence blocks (wanted.Read request) plan = refl
+    by_request sequence blocks (wanted.ReadImplicit request) plan = absurd plan
+    by_request sequence blocks (wanted.Write request) plan = refl
 
 module _ (so : HeardSo) (goes : GoesSo) where
   -- ---- one move
@@ -144,6 +163,8 @@ module _ (so : HeardSo) (goes : GoesSo) where
         call = asks.call;
         known = subst (λ (h : Heard). IsKnownHeard setup h) asks.is known;
         header = asks.header;
+        plain = planned_plain rules setup.activity station.named before.device.live.rest.real heard question
+            (heard_planned so.block_read so.block_long setup station before.device.live.rest.real can.good can.unnamed heard known) asks;
       }
 
       -- the frame of a repeated response was known

@@ -1,6 +1,7 @@
 -- What a run leaves at the device for the next controller: its fixed properties, and of other activities no response that it did
 -- not have before.
 use Rattle.std.proofs.Common.{◌≡◌, inl, inr, ℕ, List, [], ◌∷◌, Option, Some, None, refl, sym, ap, subst, ◌∙◌}
+use Rattle.std.proofs.lemmas.Bool.{false≢true}
 use Rattle.std.specs.Prelude.{slice_get}
 use Rattle.std.specs.Cmp.Lexicographic.{same_text}
 use Rattle.lldp.specs.Views.{peer_as}
@@ -76,9 +77,11 @@ module _ (activity : List ℕ) where
         let it = declines.new_call in
         ap (λ (r : Rest). kept_of activity r.calls) declines.becomes
         ∙ more_none _ live.rest.calls (λ same. other (sym (call_own it.caller it.address it.call it.is) ∙ same)) none
-    does_none after sent (inr (inr (inr (inr (inr (inr (inr replies))))))) none =
+    does_none after sent (inr (inr (inr (inr (inr (inr (inr (inl replies)))))))) none =
         ap (λ (c : List Answer). kept_of activity c) replies.keeps
-        ∙ more_none _ live.rest.calls (λ same. other (sym (own replies.question replies.asked) ∙ same)) none
+        ∙ more_none _ live.rest.calls (λ same. other (sym (own replies.question replies.asked).0 ∙ same)) none
+    does_none after sent (inr (inr (inr (inr (inr (inr (inr (inr implicitly)))))))) none =
+        absurd (false≢true (sym (own implicitly.question implicitly.asked).1 ∙ implicitly.implicit))
 
   -- ---- worlds
 

@@ -1,5 +1,5 @@
 -- What a device sends and stores in each step.
-use Rattle.std.proofs.Common.{◌≡◌, ◌&&◌, ℕ, Bool, true, false, List, [], ◌∷◌, ◌++◌, length, Option, Some, None, is_some, option_map, Result, Ok, Err, refl, sym, subst}
+use Rattle.std.proofs.Common.{◌≡◌, ◌&&◌, ℕ, Bool, true, false, cond, List, [], ◌∷◌, ◌++◌, length, Option, Some, None, is_some, option_map, Result, Ok, Err, refl, sym, subst}
 use Rattle.std.specs.List.{AllByRecursion}
 use Rattle.std.proofs.lemmas.Bool.{cond_both}
 use Rattle.arrayvec.specs.ArrayVec.{ArrayVec}
@@ -31,11 +31,13 @@ use Rattle.relations.specs.Exchanged.{heard_by, hearing, received_by, receiving}
 use Rattle.relations.specs.declared.hearing.ReadyAnswer.{ReadyAnswer}
 use Rattle.relations.specs.declared.hearing.ReadyAnswer.TheVariants as to_ready
 use Rattle.asked_records.specs.Answers.{Gives, gives_done, gives_octets, gives_refusal, answer_blocks, answer_status, judged, unanswered_status}
-use Rattle.asked_records.specs.Asked.{AskedState, asks, is_repeat}
+use Rattle.asked_records.specs.Asked.{AskedState, asks, behind_displaced, displaced_by, is_repeat}
 use Rattle.asked_records.specs.Questions.{call_of, operation_of as operation_asked}
 use Rattle.asked_records.specs.declared.answering.AnswerFault.{AnswerFault}
 use Rattle.asked_records.specs.declared.question.Question.{Question}
+use Rattle.asked_records.specs.declared.status.Unanswered.{Unanswered}
 use Rattle.asked_records.specs.declared.status.Unanswered.TheVariants.{Busy, Late}
+use Rattle.pn_values.specs.IpSuite.{is_zero}
 use Rattle.device_records.specs.Reading.{implicit_read, relation_read}
 use Rattle.relations.specs.Connect.{connect_answer, connect_within, making}
 use Rattle.relations.specs.Ready.{answer_of as ready_answer}
@@ -62,7 +64,7 @@ use Rattle.relations.specs.Diagnosed.{begin_one, beginning, has_sent_low, heard_
 use Rattle.relations.specs.Ready.{handled_by}
 use Rattle.device_frames.specs.Relation.{alarms_of, due_frames, farewells_in, frames_in, inputs_of, low_alarms_of, low_replies_of, plug_call_in, plug_calls, ready_calls, replies_of, where_due}
 use Rattle.device_frames.specs.Sendable.{AreSendable, IsSendable}
-use Rattle.device_frames.specs.Sent.{Sent, IdentifyAnswer, GetAnswer, SetAnswer, ArpReply, CallAnswer, Again, Ends}
+use Rattle.device_frames.specs.Sent.{Sent, IdentifyAnswer, GetAnswer, SetAnswer, ArpReply, CallAnswer, Again, Ends, bytes_of}
 use Rattle.rpc_core.specs.declared.response.Status.{Status}
 use Rattle.rpc_core.specs.Response.{Answered, answer_to}
 use Rattle.expected_places.specs.declared.calls.PlugCall.{PlugCall}
@@ -70,7 +72,7 @@ use Rattle.relations.specs.declared.plugging.PlugAnswer.{PlugAnswer}
 use Rattle.relations.specs.declared.plugging.PlugAnswer.TheVariants as to_plug
 use Rattle.relations.specs.Plugging.{calling_next, is_calling, is_plug_control, plug_answer_in, plug_answering, plug_end_answer, plug_end_in, plug_ending, ready_for}
 use Rattle.device_core.specs.State.{Station, Live, Rest, alias_in, counter_of, units_after}
-use Rattle.device_core.specs.Asking.{Asking, asking_of, is_new, kept_reply, late_calls, late_in, late_sent, reply_to}
+use Rattle.device_core.specs.Asking.{Asking, asking_of, calls_after, is_kept, is_new, kept_if, kept_reply, late_in, late_sent, looked_if, question_replies, refused_calls, refused_sent, reply_to}
 use Rattle.device_core.specs.Log.{but_rest, connect_log, with_log}
 use Rattle.device_core.specs.Modules.{call_after, next_call_sent}
 use Rattle.device_core.specs.Handled.{counted_by, number_now, starting_of, served as served_by, Handled, is_running, is_request, answer_from, kept_for, kept_answer, outcome_of, partner_of, ready_behind, handled_request, handled_effect, handled_next_call, handled_plug_answer, handled_plug_end, handled_prm_end, handled_write, handled_asking, handled_judged, handled_looked, handled_own, handled_question, handled_blocks, handled_call, handled_answer, handled_said, handled_pdu, handled_received, handled, known_of, handled_alarm, handled_local, handled_low, handled_low_pdu, ticked, unit_rest, unit_sent}
@@ -213,17 +215,22 @@ module _ (datagrams : DatagramsAreRead) (reads : ResponsesAreRead) (local_is : A
       → AllByRecursion (IsAnsweredWhole station.identity) messages × AreStoredWhole live.rest.calls
   quiet messages others can stored = (others_whole station.identity messages others, stored)
 
-  -- an answer is sent and stored, and then no other answer is sent
+  kept_whole : (call : Called) (message : Sent) (kept : Bool) → IsOneDatagram (bytes_of station.identity message) → AreStoredWhole live.rest.calls
+      → AreStoredWhole (kept_if kept (kept_for station.identity call message) live.rest.calls)
+  kept_whole call message true whole stored = each_more IsOneDatagram (kept_for station.identity call message) live.rest.calls whole stored
+  kept_whole call message false whole stored = stored
+
+  -- an answer is sent, and stored or not, and then no other answer is sent
   served : (caller : Caller) (call : Called) (operation : Operation) (outcome : Result (List ℕ) CallFault) (messages : List Sent) → AreOthers messages
       → AreSendable station.identity (answer_from live.values.running.suite.address caller call operation outcome ∷ messages) → AreStoredWhole live.rest.calls
       → AllByRecursion (IsAnsweredWhole station.identity) (answer_from live.values.running.suite.address caller call operation outcome ∷ messages)
-      × AreStoredWhole (kept_more 4 (kept_for station.identity call (answer_from live.values.running.suite.address caller call operation outcome)) live.rest.calls)
+      × AreStoredWhole (kept_if (is_kept station.options operation)
+      (kept_for station.identity call (answer_from live.values.running.suite.address caller call operation outcome)) live.rest.calls)
   served caller call operation outcome messages others can stored =
+      let message = answer_from live.values.running.suite.address caller call operation outcome in
       let answer = answer_to call (outcome_of operation outcome).0 (outcome_of operation outcome).1 in
-      let whole = answer_whole datagrams reads station.identity caller live.values.running.suite.address answer can.0 in (
-        (whole, others_whole station.identity messages others),
-        each_more IsOneDatagram (kept_for station.identity call (answer_from live.values.running.suite.address caller call operation outcome)) live.rest.calls (answer, whole) stored,
-      )
+      let whole = answer_whole datagrams reads station.identity caller live.values.running.suite.address answer can.0 in
+      ((whole, others_whole station.identity messages others), kept_whole call message (is_kept station.options operation) (answer, whole) stored)
 
   -- ---- the response to what is asked
 
@@ -248,30 +255,54 @@ module _ (datagrams : DatagramsAreRead) (reads : ResponsesAreRead) (local_is : A
   replies_as question status blocks (again frame) can stored = (tt, stored)
   replies_as question status blocks old can stored = (tt, stored)
 
-  question_good : (question : Question) (asked : Option AskedState) → IsGood (handled_question station live question asked)
-  question_good question (Some asked) = silent
-  question_good question None = replies_as question (unanswered_status (operation_asked question.request) Busy) [] (of_call question)
+  -- the same if it is stored, or not
+  sent_as : (question : Question) (status : Status) (blocks : List ℕ) (kept : Bool)
+      → AreSendable station.identity (question_replies kept question (reply question status blocks) live.rest.calls) → AreStoredWhole live.rest.calls
+      → AllByRecursion (IsAnsweredWhole station.identity) (question_replies kept question (reply question status blocks) live.rest.calls)
+      × AreStoredWhole (calls_after kept station.identity question (reply question status blocks) live.rest.calls)
+  sent_as question status blocks true = replies_as question status blocks (of_call question)
+  sent_as question status blocks false = λ can stored.
+      ((answer_whole datagrams reads station.identity question.caller live.values.running.suite.address (answer_to (call_of question) status blocks) can.0, tt), stored)
+
+  -- the same if the device has an IP address; else it is dropped
+  later_as : (question : Question) (status : Status) (blocks : List ℕ) (kept zero : Bool)
+      → AreSendable station.identity (cond zero [] (question_replies kept question (reply question status blocks) live.rest.calls)) → AreStoredWhole live.rest.calls
+      → AllByRecursion (IsAnsweredWhole station.identity) (cond zero [] (question_replies kept question (reply question status blocks) live.rest.calls))
+      × AreStoredWhole (cond zero live.rest.calls (calls_after kept station.identity question (reply question status blocks) live.rest.calls))
+  later_as question status blocks kept true = λ can stored. (tt, stored)
+  later_as question status blocks kept false = sent_as question status blocks kept
+
+  -- whether the response to a call that was asked is stored
+  abbrev is_stored : Question → Bool
+  is_stored question = is_kept station.options (operation_asked question.request)
+
+  -- a call that was asked is refused
+  refused_good : (reason : Unanswered) (found : Option Question)
+      → AreSendable station.identity (refused_sent station.options live.values.running.suite.address reason found live.rest.calls)
+      → AreStoredWhole live.rest.calls
+      → AllByRecursion (IsAnsweredWhole station.identity) (refused_sent station.options live.values.running.suite.address reason found live.rest.calls)
+      × AreStoredWhole (refused_calls station.options station.identity live.values.running.suite.address reason found live.rest.calls)
+  refused_good reason None = λ can stored. (tt, stored)
+  refused_good reason (Some question) =
+      later_as question (unanswered_status (operation_asked question.request) reason) [] (is_stored question) (is_zero live.values.running.suite.address)
+
+  question_good : (question : Question) (displaced : Option Question) (asked : Option AskedState) → IsGood (handled_question station live question displaced asked)
+  question_good question displaced (Some asked) = refused_good Busy displaced
+  question_good question displaced None = sent_as question (unanswered_status (operation_asked question.request) Busy) [] (is_stored question)
 
   judged_good : (given : Gives) (question : Result Question AnswerFault) → IsGood (handled_judged station live given question)
-  judged_good given (Ok question) = replies_as question (answer_status question.request given) (answer_blocks question.request given) (of_call question)
+  judged_good given (Ok question) =
+      later_as question (answer_status question.request given) (answer_blocks question.request given) (is_stored question) (is_zero live.values.running.suite.address)
   judged_good given (Err why) = silent
-
-  late_good : (found : Option Question) → AreSendable station.identity (late_sent live.values.running.suite.address found live.rest.calls)
-      → AreStoredWhole live.rest.calls
-      → AllByRecursion (IsAnsweredWhole station.identity) (late_sent live.values.running.suite.address found live.rest.calls)
-      × AreStoredWhole (late_calls station.identity live.values.running.suite.address found live.rest.calls)
-  late_good None can stored = (tt, stored)
-  late_good (Some question) can stored =
-      replies_as question (unanswered_status (operation_asked question.request) Late) [] (of_call question) can stored
 
   ticked_good : IsGood (ticked station live)
   ticked_good can stored =
       let address = live.values.running.suite.address in
       let sent = unit_sent live in
       let found = late_in (length sent) (unit_rest live).asked in
-      let late = late_good found (all_back (IsSendable station.identity) sent (late_sent address found live.rest.calls) can) stored in
+      let late = refused_good Late found (all_back (IsSendable station.identity) sent (late_sent station.options address found live.rest.calls) can) stored in
       let others = unit_other address (counter_of (units_after 1 live.rest.units)) (due_of live.rest.link) (updated (passing live.rest.link) live.rest.link) in
-      (all_both (IsAnsweredWhole station.identity) sent (late_sent address found live.rest.calls) (others_whole station.identity sent others) late.0, late.1)
+      (all_both (IsAnsweredWhole station.identity) sent (late_sent station.options address found live.rest.calls) (others_whole station.identity sent others) late.0, late.1)
 
   -- ---- requests and calls
 
@@ -331,16 +362,32 @@ module _ (datagrams : DatagramsAreRead) (reads : ResponsesAreRead) (local_is : A
   asking_good : (caller : Caller) (call : Called) (blocks : List ℕ) (operation : Operation) (asking : Result (Option Asking) CallFault)
       → IsGood (handled_asking station live caller call blocks operation asking)
   asking_good caller call blocks operation (Ok None) = own_good caller call blocks operation
-  asking_good caller call blocks operation (Ok (Some asking)) = question_good asking.0 (asks asking.0 asking.1 live.rest.asked)
+  asking_good caller call blocks operation (Ok (Some asking)) =
+      let displaced = displaced_by station.options.asks_own_first asking.0 live.rest.asked in
+      question_good asking.0 displaced (asks asking.0 asking.1 (behind_displaced displaced live.rest.asked))
   asking_good caller call blocks operation (Err why) = served caller call operation (Err why) [] tt
 
+  -- a call that is answered again was answered
+  again_if : (kept : Bool) (call : Called) (frame : List ℕ) → looked_if kept call.header.activity call.header.sequence live.rest.calls ≡ again frame
+      → looked call.header.activity call.header.sequence live.rest.calls ≡ again frame
+  again_if true call frame is = is
+  again_if false call frame is = absurd cc
+
   looked_good : (caller : Caller) (call : Called) (blocks : List ℕ) (operation : Operation) (reported : Looked)
-      → looked call.header.activity call.header.sequence live.rest.calls ≡ reported → IsGood (handled_looked station live caller call blocks operation reported)
+      → looked_if (is_kept station.options operation) call.header.activity call.header.sequence live.rest.calls ≡ reported
+      → IsGood (handled_looked station live caller call blocks operation reported)
   looked_good caller call blocks operation new is =
       cond_both (is_repeat call.header.activity call.header.sequence live.rest.asked) _ _ IsGood (λ _. silent)
       (λ _. asking_good caller call blocks operation (asking_of live.rest.real station.named (uuid_of live.rest.link) caller call blocks operation))
   looked_good caller call blocks operation (again frame) is =
-      λ can stored. ((each_again IsOneDatagram call.header.activity call.header.sequence live.rest.calls frame stored is, tt), stored)
+      λ can stored. (
+        (
+          each_again IsOneDatagram call.header.activity call.header.sequence live.rest.calls frame stored
+              (again_if (is_kept station.options operation) call frame is),
+          tt,
+        ),
+        stored,
+      )
   looked_good caller call blocks operation old is = silent
 
   blocks_good : (caller : Caller) (call : Called) (operation : Operation) (blocks : Option (List ℕ)) → IsGood (handled_blocks station live caller call operation blocks)

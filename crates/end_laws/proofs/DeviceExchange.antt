@@ -1,5 +1,5 @@
 -- What becomes of the exchange of a relation with any event at its device, and that no frame of inputs is sent but with a unit.
-use Rattle.std.proofs.Common.{◌≡◌, ap, ℕ, Bool, true, false, List, [], ◌∷◌, ◌++◌, length, Option, Some, None, option_map, Result, Ok, Err, refl, sym, subst, ◌∙◌}
+use Rattle.std.proofs.Common.{◌≡◌, ap, ℕ, Bool, true, false, cond, List, [], ◌∷◌, ◌++◌, length, Option, Some, None, option_map, Result, Ok, Err, refl, sym, subst, ◌∙◌}
 use Rattle.std.specs.Prelude.{◌&&◌, ◌||◌, if◌then◌else◌, is_some, unwrap_or}
 use Rattle.wire.specs.Codec.{◌>>=◌}
 use Rattle.pn_values.specs.declared.mac.Mac.{Mac}
@@ -32,11 +32,14 @@ use Rattle.records.specs.declared.writes.writing.Writing.TheVariants.{One, Each}
 use Rattle.records.specs.writes.Asked.{writing_of}
 use Rattle.device_records.specs.Reading.{implicit_read, relation_read}
 use Rattle.asked_records.specs.Answers.{Gives, gives_done, gives_octets, gives_refusal, answer_blocks, answer_status, judged, unanswered_status}
-use Rattle.asked_records.specs.Asked.{AskedState, asks as asking_state, is_repeat}
+use Rattle.asked_records.specs.Asked.{AskedState, asks as asking_state, behind_displaced, displaced_by, is_repeat}
 use Rattle.asked_records.specs.Questions.{operation_of as operation_asked}
 use Rattle.asked_records.specs.declared.answering.AnswerFault.{AnswerFault}
 use Rattle.asked_records.specs.declared.question.Question.{Question}
-use Rattle.asked_records.specs.declared.status.Unanswered.TheVariants.{Busy}
+use Rattle.asked_records.specs.declared.status.Unanswered.{Unanswered}
+use Rattle.asked_records.specs.declared.status.Unanswered.TheVariants.{Busy, Late}
+use Rattle.pn_values.specs.IpSuite.{is_zero}
+use Rattle.relations.specs.declared.options.DeviceOptions.{DeviceOptions}
 use Rattle.pn_alarms.specs.declared.abort.Abort.{Abort}
 use Rattle.pn_alarms.specs.declared.device.PduFate.{PduFate}
 use Rattle.pn_alarms.specs.declared.device.PduFate.TheVariants as fate
@@ -105,7 +108,7 @@ use Rattle.device_frames.specs.declared.note.Note.{Note}
 use Rattle.device_frames.specs.declared.note.Note.TheVariants as note
 use Rattle.settings_journal.specs.settings_store.Machine.{Outcome, carried}
 use Rattle.device_core.specs.State.{Station, Live, alias_in}
-use Rattle.device_core.specs.Asking.{Asking, asking_of, is_new, late_reply, late_sent, left_asked, released_by, reply_to, source_of}
+use Rattle.device_core.specs.Asking.{Asking, asking_of, is_kept, is_new, late_sent, later_replies, left_asked, looked_if, question_replies, refused_reply, refused_sent, released_by, reply_to, source_of}
 use Rattle.device_core.specs.Handled.{change_of, counted_by, number_now, Handled, Refuses, Sets, Moves, handled, handled_alarm, handled_answer, handled_asking, handled_blocks, handled_call, handled_change, handled_effect, handled_input, handled_judged, handled_looked, handled_low, handled_low_message, handled_low_pdu, handled_message, handled_modules, handled_new, handled_next_call, handled_notice, handled_own, handled_pdu, handled_plug_answer, handled_plug_end, handled_prm_end, handled_question, handled_received, handled_request, handled_said, handled_turned, handled_write, implicitly, is_request, is_running, kept_answer, kept_status, known_of, may_be_diagnosed, partner_of, ready_behind, served, starting_of, ticked}
 use Rattle.device_core.specs.Modules.{call_after, calling_after, changed_rest, next_call_sent, outside, plug_of, pull_of, sent_after, slot_pull_of}
 use Rattle.device_core.specs.Several.{Judged, judged_each}
@@ -197,10 +200,23 @@ farewells_none true (Some link) = refl
 answer_none : (is_due : Bool) (answer : Sent) → is_inputs answer ≡ false → sends_inputs (where_due is_due (answer ∷ [])) ≡ false
 answer_none is_due answer none = none_due is_due (answer ∷ []) (neither (is_inputs answer) false none refl)
 
-pub late_none : (address : List ℕ) (found : Option Question) (calls : List Kept) → sends_inputs (late_sent address found calls) ≡ false
-late_none address None calls = refl
-late_none address (Some question) calls =
-    answer_none (is_new (looked question.header.activity question.header.sequence calls)) (late_reply address question) refl
+-- the response to a call that was asked, which may be dropped
+later_none : (is_kept : Bool) (address : List ℕ) (question : Question) (answer : Sent) (calls : List Kept) → is_inputs answer ≡ false
+    → sends_inputs (later_replies is_kept address question answer calls) ≡ false
+later_none is_kept address question answer calls none = by_address (is_zero address)
+  where
+    by_address : (zero : Bool) → sends_inputs (cond zero [] (question_replies is_kept question answer calls)) ≡ false
+    by_address true = refl
+    by_address false = answer_none (is_new (looked_if is_kept question.header.activity question.header.sequence calls)) answer none
+
+refused_none : (options : DeviceOptions) (address : List ℕ) (reason : Unanswered) (found : Option Question) (calls : List Kept)
+    → sends_inputs (refused_sent options address reason found calls) ≡ false
+refused_none options address reason None calls = refl
+refused_none options address reason (Some question) calls =
+    later_none (is_kept options (operation_asked question.request)) address question (refused_reply address reason question) calls refl
+
+pub late_none : (options : DeviceOptions) (address : List ℕ) (found : Option Question) (calls : List Kept) → sends_inputs (late_sent options address found calls) ≡ false
+late_none options address found calls = refused_none options address Late found calls
 
 -- ---- a second Connect
 
@@ -564,17 +580,21 @@ module _ (station : Station) (before : Live) (link : RelationState) where
         (calm_if (partner_of caller) _) calm_stands) refl
 
     -- a call that is asked of the application, or refused while another one is
-    question_call : (question : Question) (asked : Option AskedState) → Done now (handled_question station live question asked)
-    question_call question (Some asked) = λ answers. calms now quiet_now _ calm_stands refl
-    question_call question None = λ answers.
+    question_call : (question : Question) (displaced : Option Question) (asked : Option AskedState)
+        → Done now (handled_question station live question displaced asked)
+    question_call question displaced (Some asked) = λ answers.
+        calms now quiet_now _ calm_stands (refused_none station.options live.values.running.suite.address Busy displaced live.rest.calls)
+    question_call question displaced None = λ answers.
         calms now quiet_now _ calm_stands
-        (answer_none (is_new (looked question.header.activity question.header.sequence live.rest.calls))
+        (answer_none (is_new (looked_if (is_kept station.options (operation_asked question.request)) question.header.activity question.header.sequence live.rest.calls))
         (reply_to live.values.running.suite.address question (unanswered_status (operation_asked question.request) Busy) []) refl)
 
     asking_call : (call : Call) (blocks : List ℕ) (which : Operation) (asking : Result (Option Asking) CallFault)
         → Done now (handled_asking station live caller call blocks which asking)
     asking_call call blocks which (Ok None) = own_call call blocks which
-    asking_call call blocks which (Ok (Some asking)) = question_call asking.0 (asking_state asking.0 asking.1 live.rest.asked)
+    asking_call call blocks which (Ok (Some asking)) =
+        let displaced = displaced_by station.options.asks_own_first asking.0 live.rest.asked in
+        question_call asking.0 displaced (asking_state asking.0 asking.1 (behind_displaced displaced live.rest.asked))
     asking_call call blocks which (Err why) = serves live call which (Err why) live.rest.link [] calm_stands refl
 
     unanswered_call : (call : Call) (blocks : List ℕ) (which : Operation) (b : Bool)
@@ -590,7 +610,8 @@ module _ (station : Station) (before : Live) (link : RelationState) where
 
     counted_call : (call : Call) (which : Operation) (blocks : Option (List ℕ)) → Done now (handled_blocks station live caller call which blocks)
     counted_call call which None = λ answers. calms now quiet_now _ calm_stands refl
-    counted_call call which (Some blocks) = looked_call call blocks which (looked call.header.activity call.header.sequence live.rest.calls)
+    counted_call call which (Some blocks) =
+        looked_call call blocks which (looked_if (is_kept station.options which) call.header.activity call.header.sequence live.rest.calls)
 
     called : (call : Call) (which : Option Operation) → Done now (handled_call station live caller call which)
     called call None = refuses now note.Fault (calm live link now quiet_now)
@@ -865,8 +886,8 @@ module _ (station : Station) (before : Live) (link : RelationState) where
     answered_by : (given : Gives) (question : Result Question AnswerFault) → Done heard (handled_judged station live given question)
     answered_by given (Ok question) = λ answers.
         calms heard quiet _ (calm_if (source_of question) _)
-        (answer_none (is_new (looked question.header.activity question.header.sequence live.rest.calls))
-        (reply_to live.values.running.suite.address question (answer_status question.request given) (answer_blocks question.request given)) refl)
+        (later_none (is_kept station.options (operation_asked question.request)) live.values.running.suite.address question
+        (reply_to live.values.running.suite.address question (answer_status question.request given) (answer_blocks question.request given)) live.rest.calls refl)
     answered_by given (Err why) = refuses heard note.Refused (calm live link heard quiet)
 
   -- a unit

@@ -1,6 +1,6 @@
 -- What a device exchanges over any events: a frame of inputs in each interval, with the values that were given, and the end of a
 -- relation that receives nothing.
-use Rattle.std.proofs.Common.{◌≡◌, ◌⊎◌, inl, inr, ap, ◌+◌, ◌%◌, ◌==◌, ◌&&◌, ℕ, zero, suc, Bool, true, false, List, [], ◌∷◌, ◌++◌, length, map, Option, Some, None, option_map, refl, sym, subst, ◌∙◌, arith}
+use Rattle.std.proofs.Common.{◌≡◌, ◌⊎◌, inl, inr, ap, ◌+◌, ◌%◌, ◌==◌, ◌&&◌, ℕ, zero, suc, Bool, true, false, cond, List, [], ◌∷◌, ◌++◌, length, map, Option, Some, None, option_map, refl, sym, subst, ◌∙◌, arith}
 use Rattle.std.specs.Prelude.{◌||◌, if◌then◌else◌, is_some, nat_le, unwrap_or}
 use Rattle.std.specs.List.{AllByRecursion}
 use Rattle.pn_alarms.specs.declared.abort.Abort.{Abort}
@@ -40,9 +40,13 @@ use Rattle.device_frames.specs.Relation.{alarms_of, due_frames, farewells_in, fr
 use Rattle.device_frames.specs.Sent.{Sent, IdentifyAnswer, GetAnswer, SetAnswer, ArpReply, Again, Ends, CallAnswer, Exchanges, PlugReadyCall, ReadyCall}
 use Rattle.settings_journal.specs.settings_store.Machine.{Outcome}
 use Rattle.asked_records.specs.declared.question.Question.{Question}
-use Rattle.rpc_core.specs.Cache.{Kept, looked}
+use Rattle.asked_records.specs.Questions.{operation_of}
+use Rattle.asked_records.specs.declared.status.Unanswered.TheVariants.{Late}
+use Rattle.rpc_core.specs.Cache.{Kept}
+use Rattle.pn_values.specs.IpSuite.{is_zero}
+use Rattle.relations.specs.declared.options.DeviceOptions.{DeviceOptions}
 use Rattle.device_core.specs.State.{Live, Station, counter_of, units_after}
-use Rattle.device_core.specs.Asking.{is_new, late_in, late_reply, late_sent}
+use Rattle.device_core.specs.Asking.{is_kept, is_new, late_in, late_sent, looked_if, question_replies, refused_reply}
 use Rattle.device_core.specs.Handled.{unit_rest, unit_sent}
 use Rattle.device_core.specs.Machine.{handled_step, heard_step}
 use Rattle.end_laws.specs.device.Exchange.{AreTheLastGiven, AreUnaccepted, EndsWithoutData, GoesOnFor, Happening, IsUnaccepted, OfInputs, SendsEachInterval, SendsTheLastGiven, StaysExchanging, StaysRelated, affects, after_all, ends_for_data, given_then, given_with, is_end_of_data, is_inputs, is_unit, last_given, made_with, sends_inputs, stepped, units_in, value_of}
@@ -186,8 +190,8 @@ ends_there [] more none = none
 ends_there (message ∷ sent) more none = ap (λ (b : Bool). is_inputs message || b) (ends_there sent more none)
 
 -- the refusal of a call that has no answer with this unit, if there is one
-abbrev late_after : Live → List Sent
-late_after live = late_sent live.values.running.suite.address (late_in (length (unit_sent live)) (unit_rest live).asked) live.rest.calls
+abbrev late_after : Station → Live → List Sent
+late_after station live = late_sent station.options live.values.running.suite.address (late_in (length (unit_sent live)) (unit_rest live).asked) live.rest.calls
 
 -- one unit of a device with this relation
 module _ (station : Station) (before : Live) (link : RelationState) where
@@ -212,7 +216,7 @@ module _ (station : Station) (before : Live) (link : RelationState) where
       → sends_inputs (heard_step outcomes station (record before { rest = record before.rest { link = Some link } }) Ticks).sent ≡ is_due link.flow.cyclic.sending
   unfolding heard_step handled_step
   tick_sends outcomes goes_on related =
-      ends_there (unit_sent with_link) (late_after with_link) (late_none before.values.running.suite.address _ before.rest.calls)
+      ends_there (unit_sent with_link) (late_after station with_link) (late_none station.options before.values.running.suite.address _ before.rest.calls)
       ∙ unit_sends (ending_of link) refl goes_on related
 
 -- the unit of any device with a relation
@@ -336,9 +340,9 @@ module _ (station : Station) (Has : Shown → Type 0) where
     tick_has outcomes =
         let live : Live = record before { rest = record before.rest { link = Some link } } in
         let later = updated (passing_by (ending_of link)) (Some link) in
-        both_have (unit_sent live) (late_after live)
+        both_have (unit_sent live) (late_after station live)
         (frames_have before.values.running.suite.address (counter_of (units_after 1 before.rest.units)) (due_in link) later (later_given (ending_of link)))
-        (none_has (late_after live) (late_none before.values.running.suite.address _ before.rest.calls))
+        (none_has (late_after station live) (late_none station.options before.values.running.suite.address _ before.rest.calls))
 
   pub any_has : (outcomes : List Outcome) (live : Live) (link : RelationState) (heard : Heard) → live.rest.link ≡ Some link → Has link.flow.cyclic.shown
       → AllHave (heard_step outcomes station live heard).sent
@@ -500,10 +504,18 @@ unending address counter due link none =
     (quiet_due due.is_cyclic (inputs_of counter (flow_of link)) (quiet_inputs counter (flow_of link)))))))
 
 -- a response to what is asked is no ERR
-quiet_late : (address : List ℕ) (found : Option Question) (calls : List Kept) → ends_for_data (late_sent address found calls) ≡ false
-quiet_late address None calls = refl
-quiet_late address (Some question) calls =
-    quiet_due (is_new (looked question.header.activity question.header.sequence calls)) (late_reply address question ∷ []) refl
+quiet_late : (options : DeviceOptions) (address : List ℕ) (found : Option Question) (calls : List Kept)
+    → ends_for_data (late_sent options address found calls) ≡ false
+quiet_late options address None calls = refl
+quiet_late options address (Some question) calls = by_address (is_zero address)
+  where
+    kept : Bool
+    kept = is_kept options (operation_of question.request)
+
+    by_address : (zero : Bool) → ends_for_data (cond zero [] (question_replies kept question (refused_reply address Late question) calls)) ≡ false
+    by_address true = refl
+    by_address false =
+        quiet_due (is_new (looked_if kept question.header.activity question.header.sequence calls)) (refused_reply address Late question ∷ []) refl
 
 no_more_ends : (sent more : List Sent) → ends_for_data more ≡ false → ends_for_data (sent ++ more) ≡ ends_for_data sent
 no_more_ends [] more none = none
@@ -549,7 +561,7 @@ module _ (station : Station) (before : Live) (link : RelationState) where
   unfolding heard_step handled_step
   tick_ends outcomes exchanges = (
     let live : Live = record before { rest = record before.rest { link = Some link } } in
-        no_more_ends (unit_sent live) (late_after live) (quiet_late before.values.running.suite.address _ before.rest.calls)
+        no_more_ends (unit_sent live) (late_after station live) (quiet_late station.options before.values.running.suite.address _ before.rest.calls)
         ∙ (ap (λ (o : Option Abort). ends_for_data (frames_at o)) (ending_now exchanges) ∙ says_by (is_cyclic_silent link.flow.cyclic)),
     λ silent. ap (λ (o : Option Abort). updated (passing_by o) (Some link)) (ending_now exchanges) ∙ ends_by (is_cyclic_silent link.flow.cyclic) silent,
   )

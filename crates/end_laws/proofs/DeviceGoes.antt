@@ -17,7 +17,7 @@ use Rattle.rpc_core.specs.Response.{Answered as Response}
 use Rattle.record_blocks.specs.declared.write_record.IodWriteReq.{IodWriteReq}
 use Rattle.rpc_core.specs.declared.response.Status.{Status}
 use Rattle.asked_records.specs.Answers.{Gives, gives_done, gives_octets, gives_refusal, is_refusal, judged}
-use Rattle.asked_records.specs.Asked.{AskedState, asks, is_repeat}
+use Rattle.asked_records.specs.Asked.{AskedState, asks, behind_displaced, displaced_by, is_repeat}
 use Rattle.asked_records.specs.Questions.{header_of}
 use Rattle.asked_records.specs.declared.answering.AnswerFault.{AnswerFault}
 use Rattle.asked_records.specs.declared.question.Question.{Question}
@@ -82,7 +82,7 @@ use Rattle.device_frames.specs.declared.note.Note.{Note}
 use Rattle.device_frames.specs.declared.note.Note.TheVariants as note
 use Rattle.settings_journal.specs.settings_store.Machine.{Outcome, carried}
 use Rattle.device_core.specs.State.{Station, Live, alias_in}
-use Rattle.device_core.specs.Asking.{Asking, asking_of, source_of}
+use Rattle.device_core.specs.Asking.{Asking, asking_of, is_kept, looked_if, source_of}
 use Rattle.device_core.specs.Handled.{change_of, Handled, Refuses, Sets, Moves, handled, handled_alarm, handled_answer, handled_blocks, handled_call, handled_change, handled_asking, handled_effect, handled_gives, handled_input, handled_judged, handled_looked, handled_low, handled_low_message, handled_low_pdu, handled_message, handled_modules, handled_new, handled_next_call, handled_notice, handled_pdu, handled_plug_answer, handled_plug_end, handled_own, handled_prm_end, handled_question, handled_received, handled_request, handled_said, handled_turned, handled_write, implicitly, is_request, is_running, kept_status, known_of, may_be_diagnosed, partner_of, starting_of, ticked}
 use Rattle.device_core.specs.Modules.{calling_after, changed_rest, outside, plug_of, pull_of, sent_after, slot_pull_of}
 use Rattle.device_core.specs.Several.{Judged, judged_each}
@@ -271,14 +271,16 @@ module _ (station : Station) (before : Live) (link : RelationState) where
         (names blocks _) stands)
 
     -- a call for a record of the application: it is asked, or refused while another one is
-    questions : (question : Question) (asked : Option AskedState) → Done (handled_question station live question asked)
-    questions question (Some asked) = λ answers. leads _ _ refl stands
-    questions question None = λ answers. leads _ _ refl stands
+    questions : (question : Question) (displaced : Option Question) (asked : Option AskedState) → Done (handled_question station live question displaced asked)
+    questions question displaced (Some asked) = λ answers. leads _ _ refl stands
+    questions question displaced None = λ answers. leads _ _ refl stands
 
     asking_as : (call : Call) (blocks : List ℕ) (which : Operation) (asking : Result (Option Asking) CallFault)
         → Done (handled_asking station live caller call blocks which asking)
     asking_as call blocks which (Ok None) = own_call call blocks which
-    asking_as call blocks which (Ok (Some asking)) = questions asking.0 (asks asking.0 asking.1 live.rest.asked)
+    asking_as call blocks which (Ok (Some asking)) =
+        let displaced = displaced_by station.options.asks_own_first asking.0 live.rest.asked in
+        questions asking.0 displaced (asks asking.0 asking.1 (behind_displaced displaced live.rest.asked))
     asking_as call blocks which (Err why) = λ answers. leads _ _ refl stands
 
     -- one that is asked already is dropped
@@ -295,7 +297,8 @@ module _ (station : Station) (before : Live) (link : RelationState) where
 
     counted_call : (call : Call) (which : Operation) (blocks : Option (List ℕ)) → Done (handled_blocks station live caller call which blocks)
     counted_call call which None = λ answers. leads _ _ refl stands
-    counted_call call which (Some blocks) = looked_call call blocks which (looked call.header.activity call.header.sequence live.rest.calls)
+    counted_call call which (Some blocks) =
+        looked_call call blocks which (looked_if (is_kept station.options which) call.header.activity call.header.sequence live.rest.calls)
 
     called : (call : Call) (which : Option Operation) → Done (handled_call station live caller call which)
     called call None = refuses note.Fault

@@ -87,4 +87,5 @@ does_numbered station live heard after sent (inr (inr (inr (inr (inr (inl it))))
     (ap (λ (r : Rest). r.link) it.becomes)
 does_numbered station live heard after sent (inr (inr (inr (inr (inr (inr (inl it))))))) = same station.options live.rest.link after.link
     (ap (λ (r : Rest). r.link) it.becomes)
-does_numbered station live heard after sent (inr (inr (inr (inr (inr (inr (inr it))))))) = kept_numbered station.options live.rest.link after.link it.link
+does_numbered station live heard after sent (inr (inr (inr (inr (inr (inr (inr (inl it)))))))) = kept_numbered station.options live.rest.link after.link it.link
+does_numbered station live heard after sent (inr (inr (inr (inr (inr (inr (inr (inr it)))))))) = kept_numbered station.options live.rest.link after.link it.link

@@ -2,6 +2,7 @@
 use Rattle.std.proofs.Common.{◌≡◌, inl, inr, ap, ◌+◌, ℕ, Bool, true, false, cond, List, [], take, Option, Some, None, option_map, Result, Ok, Err, refl, sym, subst, not, ◌∙◌}
 use Rattle.std.specs.Prelude.{◌&&◌, ◌==◌, if◌then◌else◌, nat_eq}
 use Rattle.std.specs.Cmp.Lexicographic.{pointwise, other_text, same_text}
+use Rattle.std.proofs.lemmas.Bool.{false≢true}
 use Rattle.wire.specs.Checks.{or_fault}
 use Rattle.wire.specs.Codec.{◌>>=◌}
 use Rattle.pn_values.specs.declared.real.Real.{Real}
@@ -23,17 +24,18 @@ use Rattle.records.specs.reads.Handled.{request_of}
 use Rattle.records.specs.reads.Within.{request_within}
 use Rattle.connects.specs.requests.Request.{Request}
 use Rattle.asked_records.specs.Answers.{Gives, fault_of, is_refusal, judged, judged_with, question_unless}
-use Rattle.asked_records.specs.Asked.{AskedState, Standing, asks_of, dropped_at, is_affected, is_of, is_over, later_with, limit, over_with, question_in, settled, ticked as asked_ticked, waits}
+use Rattle.asked_records.specs.Asked.{AskedState, Standing, asks_of, displaced_by, dropped_at, gives_way, is_affected, is_of, is_over, later_with, limit, over_with, question_in, settled, ticked as asked_ticked, waits}
 use Rattle.asked_records.specs.Judging.{asked_read, asked_write}
-use Rattle.asked_records.specs.Questions.{header_of, is_of_relation, operation_of as operation_asked}
+use Rattle.asked_records.specs.Questions.{header_of, is_implicit, is_of_relation, operation_of as operation_asked}
 use Rattle.asked_records.specs.declared.answering.AnswerFault.{AnswerFault}
 use Rattle.asked_records.specs.declared.names.RecordName.{RecordName}
 use Rattle.asked_records.specs.declared.question.Question.{Question}
 use Rattle.asked_records.specs.declared.question.Request.{Request as Wanted}
 use Rattle.asked_records.specs.declared.question.Request.TheVariants as wanted
+use Rattle.relations.specs.declared.options.DeviceOptions.{DeviceOptions}
 use Rattle.relations.specs.Phases.{Named, Unmoved, updated}
 use Rattle.relations.specs.RelationState.{RelationState, uuid_of}
-use Rattle.device_core.specs.Asking.{Asking, answered_link, asked_later, asking_read, asking_write, is_full, late_in, left_asked, question_of, source_of, write_within}
+use Rattle.device_core.specs.Asking.{Asking, answered_link, asked_later, asking_read, asking_write, is_full, is_kept, late_in, left_asked, question_of, source_of, write_within}
 use Rattle.device_frames.specs.Heard.{Heard}
 use Rattle.end_laws.specs.both.Small as small
 use Rattle.end_laws.specs.both.Steps.{IsSameOrNone}
@@ -197,6 +199,52 @@ judged_is number given asked question e = by_standing asked.standing e
     by_standing : (standing : Option Standing) → judged_with asked.last number given standing ≡ Ok question → asked_by standing ≡ Some question
     by_standing None f = absurd cc
     by_standing (Some standing) f = by_number standing (number == asked.last) _ f
+
+-- ---- which answers are stored
+
+-- an answer that is not stored is one to a Read Implicit
+pub unstored_is : (options : DeviceOptions) (request : Wanted) → is_kept options (operation_asked request) ≡ false
+    → (is_implicit request ≡ true) × (options.reads_not_kept ≡ true)
+unstored_is options (wanted.Read request) e = absurd (false≢true (sym e))
+unstored_is options (wanted.ReadImplicit request) e = (refl, by_option options.reads_not_kept e)
+  where
+    by_option : (b : Bool) → not b ≡ false → b ≡ true
+    by_option true f = refl
+    by_option false f = absurd (false≢true (sym f))
+unstored_is options (wanted.Write request) e = absurd (false≢true (sym e))
+
+-- that to a call of the relation is stored
+pub related_stored : (options : DeviceOptions) (uuid : List ℕ) (request : Wanted) (which : Operation) → operation_asked request ≡ which
+    → is_of_relation uuid request ≡ true → is_kept options which ≡ true
+related_stored options uuid (wanted.Read request) which e own = ap (is_kept options) (sym e)
+related_stored options uuid (wanted.ReadImplicit request) which e own = absurd (false≢true own)
+related_stored options uuid (wanted.Write request) which e own = ap (is_kept options) (sym e)
+
+-- ---- a question that gives way
+
+-- it is a Read Implicit that is asked
+pub displaced_is : (own_first : Bool) (question : Question) (asked : AskedState) (other : Question) → displaced_by own_first question asked ≡ Some other
+    → (own_first ≡ true) × (question_in asked ≡ Some other) × (is_implicit other.request ≡ true)
+displaced_is false question asked other e = absurd (none_some other e)
+displaced_is true question asked other e = by_standing asked.standing refl e
+  where
+    by_way : (standing : Standing) (b c : Bool) → is_implicit standing.question.request ≡ c → cond (b && c) (Some standing.question) None ≡ Some other
+        → (standing.question ≡ other) × (is_implicit standing.question.request ≡ true)
+    by_way standing true true is f = (some_is standing.question other f, is)
+    by_way standing true false is f = absurd (none_some other f)
+    by_way standing false c is f = absurd (none_some other f)
+
+    by_standing : (standing : Option Standing) → asked.standing ≡ standing → gives_way question standing ≡ Some other
+        → (true ≡ true) × (question_in asked ≡ Some other) × (is_implicit other.request ≡ true)
+    by_standing None is f = absurd (none_some other f)
+    by_standing (Some standing) is f =
+        let there = by_way standing (not (is_implicit question.request)) (is_implicit standing.question.request) refl f in (
+          refl,
+          ap (λ (s : Option Standing). option_map (λ (t : Standing). t.question) s) is ∙ ap (λ (q : Question). let o : Option Question = Some q in o) there.0,
+          ap (λ (q : Question). is_implicit q.request) (sym there.0) ∙ there.1,
+        )
+
+-- ---- the relation after an answer
 
 -- the relation after it is the same, but for its activity timer
 module _ (question : Question) (given : Gives) where

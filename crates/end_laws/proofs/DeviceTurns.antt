@@ -22,9 +22,10 @@ use Rattle.records.specs.declared.writes.writing.Writing.TheVariants.{One, Each}
 use Rattle.record_blocks.specs.declared.write_record.IodWriteReq.{IodWriteReq}
 use Rattle.asked_records.specs.Asked.{AskedState, question_in}
 use Rattle.asked_records.specs.Judging.{asked_name, asked_write, write_found}
-use Rattle.asked_records.specs.Questions.{call_of}
+use Rattle.asked_records.specs.Questions.{call_of, is_implicit, operation_of as operation_asked}
 use Rattle.asked_records.specs.declared.names.RecordName.{RecordName}
 use Rattle.asked_records.specs.declared.question.Question.{Question}
+use Rattle.asked_records.specs.declared.question.Request.{Request as Wanted}
 use Rattle.asked_records.specs.declared.question.Request.TheVariants as wanted
 use Rattle.relations.specs.declared.ready.Ready.{Ready}
 use Rattle.relations.specs.declared.phase.Partner.{Partner}
@@ -621,7 +622,7 @@ module _ (refusals_are_not_done : RefusalsAreNotDone) (rules : Rules TakenRecord
         let message = reply_to live.values.running.suite.address question it.status it.blocks in
         let parts = each_parts (IsHeardAs rules station.identity) it.first (message ∷ []) (subst (λ (messages : List Sent). AreHeard messages) it.sends all) in
         let sequence = question.header.sequence in
-        let of_activity = own question it.asked in
+        let of_activity = (own question it.asked).0 in
         subst (λ (h : ToDevice). Goes h after sent) (sym (it.idle rules.is_planned)) (inr (record {
           sequence = sequence;
           asked = ap number_of it.asked;
@@ -648,7 +649,8 @@ module _ (refusals_are_not_done : RefusalsAreNotDone) (rules : Rules TakenRecord
     turn_goes (inr (inr (inr (inr (inl it))))) = serves it
     turn_goes (inr (inr (inr (inr (inr (inl it)))))) = questions it
     turn_goes (inr (inr (inr (inr (inr (inr (inl it))))))) = declines it
-    turn_goes (inr (inr (inr (inr (inr (inr (inr it))))))) = replies it
+    turn_goes (inr (inr (inr (inr (inr (inr (inr (inl it)))))))) = replies it
+    turn_goes (inr (inr (inr (inr (inr (inr (inr (inr it)))))))) = absurd (false≢true (sym (own it.question it.asked).1 ∙ it.implicit))
 
 -- what is asked is a call of this activity, also after a turn
 own_later : (rules : Rules TakenRecord Request) (activity : List ℕ) (station : Station) (live : Live) (heard : Heard) (after : AskedState)
@@ -656,12 +658,22 @@ own_later : (rules : Rules TakenRecord Request) (activity : List ℕ) (station :
     → IsAskedOwn activity after
 own_later rules activity station live heard after planned later own = λ question e. by_later question (later question e)
   where
-    by_later : (question : Question) → (question_in live.rest.asked ≡ Some question) ⊎ IsAsking heard question → question.header.activity ≡ activity
+    -- no Read Implicit is one of the start-up or of the application
+    planned_plain : (sequence : ℕ) (blocks : List ℕ) (request : Wanted)
+        → IsPlannedAs rules station.named live.rest.real sequence blocks (Some (operation_asked request)) → is_implicit request ≡ false
+    planned_plain sequence blocks (wanted.Read request) plan = refl
+    planned_plain sequence blocks (wanted.ReadImplicit request) plan = absurd plan
+    planned_plain sequence blocks (wanted.Write request) plan = refl
+
+    by_later : (question : Question) → (question_in live.rest.asked ≡ Some question) ⊎ IsAsking heard question
+        → (question.header.activity ≡ activity) × (is_implicit question.request ≡ false)
     by_later question (inl was) = own question was
     by_later question (inr asks) =
         let plan : IsPlannedCall rules activity station.named live.rest.real asks.call = subst
         (λ (h : Heard). IsPlanned rules activity station.named live.rest.real h) asks.is planned in
-        ap (λ (h : CallHeader). h.activity) asks.header ∙ plan.own
+        let asks_is : IsPlannedAs rules station.named live.rest.real asks.call.header.sequence plan.blocks (Some (operation_asked question.request)) = subst
+        (λ (o : Option Operation). IsPlannedAs rules station.named live.rest.real asks.call.header.sequence plan.blocks o) asks.asks plan.asks in
+        (ap (λ (h : CallHeader). h.activity) asks.header ∙ plan.own, planned_plain asks.call.header.sequence plan.blocks question.request asks_is)
 
 pub step_own : (rules : Rules TakenRecord Request) (activity : List ℕ) (outcomes : List Outcome) (station : Station) (live : Live) (heard : Heard)
     → IsPlanned rules activity station.named live.rest.real heard → IsAskedLater heard live.rest.asked (heard_step outcomes station live heard).live.rest.asked

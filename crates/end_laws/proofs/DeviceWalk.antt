@@ -7,6 +7,7 @@ use Rattle.lldp.specs.Peer.{Peer}
 use Rattle.std.specs.Cmp.Lexicographic.{pointwise, same_text}
 use Rattle.wire.specs.Codec.{◌>>=◌}
 use Rattle.pn_values.specs.declared.mac.Mac.{Mac}
+use Rattle.pn_values.specs.IpSuite.{is_zero}
 use Rattle.pn_values.specs.declared.set_item.BlockError.{BlockError}
 use Rattle.frame_codec.specs.declared.arp.Arp.{Arp}
 use Rattle.frame_codec.specs.declared.udp.Caller.{Caller}
@@ -17,8 +18,8 @@ use Rattle.dcp_core.specs.Identify.{matches}
 use Rattle.dcp_core.specs.Set.{plan_of}
 use Rattle.rpc_core.specs.Call.{Asked as Call}
 use Rattle.asked_records.specs.Answers.{Gives, answer_blocks, answer_status, gives_done, gives_octets, gives_refusal, judged, unanswered_status}
-use Rattle.asked_records.specs.Asked.{AskedState, Standing as AskedStanding, asked_with, asks_beside, is_repeat, question_in, settled}
-use Rattle.asked_records.specs.Questions.{call_of, is_of_relation, operation_of as operation_asked}
+use Rattle.asked_records.specs.Asked.{AskedState, Standing as AskedStanding, asked_with, asks_beside, displaced_by, is_repeat, question_in, settled}
+use Rattle.asked_records.specs.Questions.{call_of, is_implicit, is_of_relation, operation_of as operation_asked}
 use Rattle.asked_records.specs.declared.answering.AnswerFault.{AnswerFault}
 use Rattle.asked_records.specs.declared.question.Question.{Question}
 use Rattle.asked_records.specs.declared.status.Unanswered.TheVariants.{Busy, Late}
@@ -84,8 +85,8 @@ use Rattle.device_frames.specs.declared.note.Note.{Note}
 use Rattle.device_frames.specs.declared.note.Note.TheVariants as note
 use Rattle.settings_journal.specs.settings_store.Machine.{Outcome, carried}
 use Rattle.device_core.specs.State.{Station, Live, Rest, alias_in, counter_of, units_after}
-use Rattle.device_core.specs.Asking.{Asking, answered_link, asked_later, asking_of, ended_by as ended_uuid, is_new as is_new_call, kept_reply, late_calls, late_in, late_sent, left_asked, question_of, question_replies, released_by, reply_to, write_within}
-use Rattle.device_core.specs.Handled.{change_of, Handled, Refuses, Sets, Moves, counted_rest, counted_sent, is_running, is_request, outcome_of, served, ready_behind, partner_of, kept_answer, kept_for, handled_asking, handled_effect, handled_gives, handled_judged, handled_own, handled_question, handled_write, handled_new, handled_looked, handled_blocks, handled_call, handled_alarm, handled_answer, handled_beginning, handled_change, handled_low, handled_low_message, handled_low_pdu, handled_modules, handled_next_call, handled_plug_answer, handled_plug_end, handled_prm_end, handled_said, handled_received, handled_input, handled_met, handled_notice, handled_pdu, handled_message, handled_request, handled_turned, goes_on_with, kept_status, starting_of, number_now, counted_by, handled, known_of}
+use Rattle.device_core.specs.Asking.{Asking, answered_link, asked_later, asking_of, behind_if, calls_after, ended_by as ended_uuid, is_kept, is_new as is_new_call, kept_reply, late_calls, late_in, late_sent, later_calls, later_replies, left_asked, looked_if, question_of, question_replies, refused_reply, released_by, reply_to, write_within}
+use Rattle.device_core.specs.Handled.{change_of, Handled, Refuses, Sets, Moves, counted_rest, counted_sent, is_running, is_request, outcome_of, served, ready_behind, partner_of, kept_answer, kept_for, handled_asked, handled_asking, handled_effect, handled_gives, handled_judged, handled_own, handled_question, handled_write, handled_new, handled_looked, handled_blocks, handled_call, handled_alarm, handled_answer, handled_beginning, handled_change, handled_low, handled_low_message, handled_low_pdu, handled_modules, handled_next_call, handled_plug_answer, handled_plug_end, handled_prm_end, handled_said, handled_received, handled_input, handled_met, handled_notice, handled_pdu, handled_message, handled_request, handled_turned, goes_on_with, kept_status, starting_of, number_now, counted_by, handled, known_of}
 use Rattle.device_core.specs.Modules.{call_after, calling_after, changed_rest, next_call_sent, outside, plug_of, pull_of, sent_after, slot_pull_of}
 use Rattle.device_core.specs.Several.{Judged, judged_each}
 use Rattle.rpc_core.specs.declared.response.Status.{Status}
@@ -94,8 +95,8 @@ use Rattle.device_records.specs.declared.log_data.entry.LogEntry.{LogEntry}
 use Rattle.device_core.specs.Log.{but_rest, connect_log, end_log, err_log, release_log}
 use Rattle.end_laws.specs.both.Small.{Rules}
 use Rattle.end_laws.specs.device.Orderly.{AreNumbered, IsEarly, IsNumberedCall, IsOrderly, IsOrderlyIn}
-use Rattle.end_laws.specs.device.Owed.{IsAskedOf, IsOwed}
-use Rattle.end_laws.proofs.DeviceQuestions.{IsAskedBy, IsStill, answered_orderly, answered_same, answered_small, dropped_still, judged_is, late_asked, later_still, left_none, left_still, nothing_related, read_asks, same_uuid, still_later, still_related, still_then, still_was, unrelated_asks, write_asks}
+use Rattle.end_laws.specs.device.Owed.{IsAskedOf, IsAsking, IsOwed}
+use Rattle.end_laws.proofs.DeviceQuestions.{IsAskedBy, IsStill, answered_orderly, answered_same, answered_small, displaced_is, dropped_still, judged_is, late_asked, later_still, left_none, left_still, nothing_related, read_asks, same_uuid, still_later, still_related, still_then, still_was, unrelated_asks, unstored_is, write_asks}
 use Rattle.end_laws.proofs.DeviceConnects.{unlimited}
 use Rattle.end_laws.proofs.DeviceOrderly.{AreBeside, IsKept, answered_beside, beside_ended, beside_kept, calls_told, changed_numbered, changing_kept, changing_orderly, diagnosing_kept, diagnosing_orderly, ended_keys, ended_numbered, exchanges_sent, exchanges_told, exchanging_is, late, next_beside, numbered_next, part_told, plug_of_relation, ready_beside, told_kept, unit_numbered, unit_orderly}
 use Rattle.end_laws.proofs.DeviceOwing.{IsPlainIn, asking_plain, busy_sized, busy_undone, connect_plain, keeping_plain, outcome_sized, plug_plain, prm_plain, read_plain, release_plain, stored_plain, writing_plain, IsPlain, bind_ok}
@@ -141,7 +142,7 @@ use Rattle.relations.specs.declared.phase.Phase.TheVariants.{Started, Preparing,
 use Rattle.end_laws.specs.both.Small as small
 use Rattle.end_laws.specs.device.Small.{IsPlanned, IsPlannedAs, IsPlannedIn, Planned, confirms, heard_as, link_of, names_own, phase_in}
 use Rattle.end_laws.specs.device.Does.{AreReadied, Following, GoesBy, IsForRecord, IsEffect, IsExchange, IsKeptOr, IsOther, IsRestarted, IsUncalled, Plugging, Readying, readied_from, with_more}
-use Rattle.end_laws.specs.device.Turn.{AreCalm, BeginsNumbered, Changes, Diagnoses, IsCalm, IsHigh, IsLow, IsRaise, IsTurn, Raises, Standing, Turn, alarm_heard, change_by, change_heard, heard_low_in, input_heard, modules_after, standing_of}
+use Rattle.end_laws.specs.device.Turn.{Answers, AreCalm, BeginsNumbered, Changes, Diagnoses, IsCalm, IsHigh, IsLow, IsRaise, IsTurn, Raises, Standing, Turn, alarm_heard, change_by, change_heard, heard_low_in, input_heard, modules_after, standing_of}
 
 -- ---- what is sent
 
@@ -554,6 +555,10 @@ module _ (rules : Rules TakenRecord Request) (activity : List ℕ) (station : St
   abbrev from : List ℕ
   from = live.values.running.suite.address
 
+  -- whether the response to a call that was asked is stored
+  abbrev is_stored : Question → Bool
+  is_stored question = is_kept station.options (operation_asked question.request)
+
   -- the modules that are plugged
   abbrev real : List RealModule
   real = live.rest.real.modules.items
@@ -680,10 +685,9 @@ module _ (rules : Rules TakenRecord Request) (activity : List ℕ) (station : St
 
       replies : question_in after ≡ None → IsKeptOr before link → AreOthers link first → ((more : List Sent) → AreCalm before more → IsTurnWith (first ++ more))
           → (IsOrderlyIn before → IsOrderlyIn link)
-          → Turn station live heard (rest_with (behind_reported 4 (kept_reply station.identity question reply) live.rest.calls
-          (looked question.header.activity question.header.sequence live.rest.calls)))
-          (first ++ question_replies question reply live.rest.calls)
-      replies settled kept others is orderly = by_looked (looked question.header.activity question.header.sequence live.rest.calls) refl
+          → Turn station live heard (rest_with (later_calls (is_stored question) station.identity from question reply live.rest.calls))
+          (first ++ later_replies (is_stored question) from question reply live.rest.calls)
+      replies settled kept others is orderly = by_address (is_zero from)
         where
           related : IsAskedOf before live.rest.asked → IsAskedOf link after
           related was = nothing_related link after settled
@@ -702,7 +706,7 @@ module _ (rules : Rules TakenRecord Request) (activity : List ℕ) (station : St
               → Turn station live heard (rest_with (behind_reported 4 (kept_reply station.identity question reply) live.rest.calls reported))
               (first ++ where_due (is_new_call reported) (reply ∷ []))
           by_looked new fresh = record {
-            does = inr (inr (inr (inr (inr (inr (inr (record {
+            does = inr (inr (inr (inr (inr (inr (inr (inl (record {
               idle = idle;
               question = question;
               asked = asked;
@@ -715,7 +719,7 @@ module _ (rules : Rules TakenRecord Request) (activity : List ℕ) (station : St
               first = first;
               others = others;
               sends = refl;
-            })))))));
+            }))))))));
             is = is (reply ∷ []) (tt, tt);
             diagnoses = inl refl;
             modules = inl refl;
@@ -737,6 +741,52 @@ module _ (rules : Rules TakenRecord Request) (activity : List ℕ) (station : St
           }
           by_looked (again frame) fresh = passes
           by_looked old fresh = passes
+
+          -- the response to a Read Implicit is not stored
+          tells_it : is_stored question ≡ false → Turn station live heard (rest_with live.rest.calls) (first ++ reply ∷ [])
+          tells_it unstored =
+              let there = unstored_is station.options question.request unstored in
+              record {
+                does = inr (inr (inr (inr (inr (inr (inr (inr (record {
+                  question = question;
+                  asked = asked;
+                  implicit = there.0;
+                  link = kept;
+                  does = inl (record {
+                    idle = idle;
+                    unstored = there.1;
+                    settled = settled;
+                    status = status;
+                    blocks = blocks;
+                    keeps = refl;
+                    first = first;
+                    others = others;
+                    sends = refl;
+                  });
+                }))))))));
+                is = is (reply ∷ []) (tt, tt);
+                diagnoses = inl refl;
+                modules = inl refl;
+                answers = inl refl;
+                orderly = orderly;
+                owed = each_behind (IsOwed heard live) first (reply ∷ []) (other_owed link first others)
+                    (inr (record { question = question; is = asked; own = refl; header = refl; maximum = refl }), tt);
+                asked = still_later heard live.rest.asked after (inr settled);
+                related = related;
+              }
+
+          by_stored : (stored : Bool) → is_stored question ≡ stored
+              → Turn station live heard (rest_with (calls_after stored station.identity question reply live.rest.calls))
+              (first ++ question_replies stored question reply live.rest.calls)
+          by_stored true is_so = by_looked (looked question.header.activity question.header.sequence live.rest.calls) refl
+          by_stored false is_so = tells_it is_so
+
+          -- it is dropped if the device has no IP address any more
+          by_address : (zero : Bool)
+              → Turn station live heard (rest_with (cond zero live.rest.calls (calls_after (is_stored question) station.identity question reply live.rest.calls)))
+              (first ++ cond zero [] (question_replies (is_stored question) question reply live.rest.calls))
+          by_address true = passes
+          by_address false = by_stored (is_stored question) refl
 
     module _ (idle : (planned : Planned) → IsUncalled (heard_as planned heard)) where
       stays : (after : Rest) (sent : List Sent) → after.calls ≡ live.rest.calls → after.diagnoses ≡ live.rest.diagnoses → after.real ≡ live.rest.real
@@ -1117,15 +1167,15 @@ module _ (rules : Rules TakenRecord Request) (activity : List ℕ) (station : St
     counts : IsKeptOr before link → AreOthers link sent
         → ((more : List Sent) → AreCalm before more → IsTurn real real live.rest.calls live.rest.diagnoses live.rest.diagnoses before Ticks link (sent ++ more))
         → (IsOrderlyIn before → IsOrderlyIn link) → IsStill live.rest.asked asked → (IsAskedOf before live.rest.asked → IsAskedOf link asked)
-        → Turn station live Ticks (counted_rest station.identity from count unit_rest) (sent ++ counted_sent from count unit_rest)
+        → Turn station live Ticks (counted_rest station from count unit_rest) (sent ++ counted_sent station from count unit_rest)
     counts kept others is orderly still related = by_late (late_in count asked) refl
       where
         after : AskedState
         after = asked_later count asked
 
         by_late : (late : Option Question) → late_in count asked ≡ late
-            → Turn station live Ticks (record unit_rest { asked = asked_later count asked; calls = late_calls station.identity from late live.rest.calls })
-            (sent ++ late_sent from late live.rest.calls)
+            → Turn station live Ticks (record unit_rest { asked = asked_later count asked; calls = late_calls station.options station.identity from late live.rest.calls })
+            (sent ++ late_sent station.options from late live.rest.calls)
         by_late None e = goes Ticks (record unit_rest { asked = asked_later count asked }) (sent ++ []) refl refl (is [] tt) orderly
             (λ was. still_related link link asked (asked_later count asked) refl (later_still count asked) (related was))
             (record {
@@ -1147,7 +1197,7 @@ module _ (rules : Rules TakenRecord Request) (activity : List ℕ) (station : St
       record live.rest { lamp = lamp; link = link; units = units; log = log; asked = left_asked (ended_uuid farewell) live.rest.asked }
 
   abbrev Counts_to : Rest → List Sent → Type 0
-  Counts_to rest sent = Comes_to Ticks (Moves (counted_rest station.identity from (length sent) rest) (sent ++ counted_sent from (length sent) rest))
+  Counts_to rest sent = Comes_to Ticks (Moves (counted_rest station from (length sent) rest) (sent ++ counted_sent station from (length sent) rest))
 
   ticks_as : (lamp units : ℕ) (log : List LogEntry) (link : RelationState) (ending : Option Abort) → before ≡ Some link
       → Counts_to (unit_from lamp units log (updated (passing_by ending) (Some link)) (due_by link ending).farewell)
@@ -1408,11 +1458,11 @@ module _ (rules : Rules TakenRecord Request) (activity : List ℕ) (station : St
 
       serves_with : (made : ℕ) (log : List LogEntry) (asked : AskedState) (which : Operation) (outcome : Result (List ℕ) CallFault)
           (link : Option RelationState) (ready : Option Following)
-          → operation_of call.header.operation ≡ Some which → IsPlainIn outcome
+          → operation_of call.header.operation ≡ Some which → is_kept station.options which ≡ true → IsPlainIn outcome
           → IsEffect station live.rest.real caller blocks outcome which before link → AreReadied live link ready
           → IsStill live.rest.asked asked → (IsAskedOf before live.rest.asked → IsAskedOf link asked)
           → Comes_to heard (served station (counting made log asked) caller call which outcome link (readied_from from ready))
-      serves_with made log asked which outcome link ready asks plain effect readied still related = λ answers. record {
+      serves_with made log asked which outcome link ready asks stored plain effect readied still related = rw stored (λ answers. record {
         does = inr (inr (inr (inr (inl (record {
           caller = caller;
           address = address;
@@ -1452,7 +1502,7 @@ module _ (rules : Rules TakenRecord Request) (activity : List ℕ) (station : St
         );
         asked = still_later heard live.rest.asked asked still;
         related = related;
-      }
+      })
 
       -- a relation is made where none was, so nothing is asked; else it is the same, but for a Release
       connected_related : (blocks : List ℕ) (request : Request) (past link : Option RelationState) → connect_of past blocks ≡ Ok request
@@ -1481,17 +1531,19 @@ module _ (rules : Rules TakenRecord Request) (activity : List ℕ) (station : St
           alike heard link (ap uuid_of it.becomes ∙ (parameterized_uuid it.source it.by_application it.link ∙ sym (ap uuid_of it.was)))
       effect_related (Ok octets) operation.Control link (inl kind) (inr it) = alike heard link (ap uuid_of it.becomes ∙ sym (ap uuid_of it.was))
 
-      serves : (log : List LogEntry) (which : Operation) (outcome : Result (List ℕ) CallFault) (link : Option RelationState) (ready : Option Following) → operation_of call.header.operation ≡ Some which → IsPlainIn outcome
+      serves : (log : List LogEntry) (which : Operation) (outcome : Result (List ℕ) CallFault) (link : Option RelationState) (ready : Option Following)
+          → operation_of call.header.operation ≡ Some which → is_kept station.options which ≡ true → IsPlainIn outcome
           → IsEffect station live.rest.real caller blocks outcome which before link → AreReadied live link ready
           → IsUnreleased which ⊎ ((why : CallFault) × (outcome ≡ Err why))
           → Comes_to heard (served station (logging log) caller call which outcome link (readied_from from ready))
-      serves log which outcome link ready asks plain effect readied kind =
-          serves_with live.rest.made log live.rest.asked which outcome link ready asks plain effect readied (inl refl)
+      serves log which outcome link ready asks stored plain effect readied kind =
+          serves_with live.rest.made log live.rest.asked which outcome link ready asks stored plain effect readied (inl refl)
           (effect_related outcome which link kind effect)
 
-      fails : (log : List LogEntry) (which : Operation) (why : CallFault) (link : Option RelationState) → operation_of call.header.operation ≡ Some which → IsPlain why → before ≡ link
+      fails : (log : List LogEntry) (which : Operation) (why : CallFault) (link : Option RelationState) → operation_of call.header.operation ≡ Some which
+          → is_kept station.options which ≡ true → IsPlain why → before ≡ link
           → Comes_to heard (served station (logging log) caller call which (Err why) link [])
-      fails log which why link asks plain was = serves log which (Err why) link None asks plain (sym was) tt (inr (why, refl))
+      fails log which why link asks stored plain was = serves log which (Err why) link None asks stored plain (sym was) tt (inr (why, refl))
 
       -- the call is answered, and then the next call of a plug may be sent
       following : (link : RelationState) → before ≡ Some link → operation_of call.header.operation ≡ Some operation.Control → (outcome : Result (List ℕ) CallFault) (next : Option RelationState)
@@ -1508,14 +1560,14 @@ module _ (rules : Rules TakenRecord Request) (activity : List ℕ) (station : St
 
           by_standing : (standing : Option PlugCall) → (AreNumbered link.plugs.calls → IsNumberedCall standing)
               → Comes_to heard (served station live caller call operation.Control outcome (Some called) (plug_call_in from (option_map (ready_for called) standing)))
-          by_standing None small = serves live.rest.log operation.Control outcome (Some called) None asks plain effect tt (inl tt)
+          by_standing None small = serves live.rest.log operation.Control outcome (Some called) None asks refl plain effect tt (inl tt)
           by_standing (Some one) small =
-              serves live.rest.log operation.Control outcome (Some called) (Some (Plugging (ready_for called one))) asks plain effect
+              serves live.rest.log operation.Control outcome (Some called) (Some (Plugging (ready_for called one))) asks refl plain effect
               (plug_of_relation before link called one was beside.request small) (inl tt)
 
           by_called : (b : Bool) → Comes_to heard (served station live caller call operation.Control outcome (Some called) (where_due b (plug_calls from (Some called))))
           by_called true = by_standing called.plugs.calls.standing (λ calls. (numbered calls).1)
-          by_called false = serves live.rest.log operation.Control outcome (Some called) None asks plain effect tt (inl tt)
+          by_called false = serves live.rest.log operation.Control outcome (Some called) None asks refl plain effect tt (inl tt)
 
       -- what is not logged
       abbrev unlogged : List LogEntry
@@ -1529,19 +1581,19 @@ module _ (rules : Rules TakenRecord Request) (activity : List ℕ) (station : St
           (updated (making live.rest.real (partner_of caller) station.options (starting_of station live) request) before) [])
       connects_as (Ok request) asks read plain =
           serves_with (made_after live.rest.made) unlogged live.rest.asked operation.Connect (answer_for (Ok request))
-          (Some (made_of request (partner_of caller) (rows_of request live.rest.real) station.options (starting_of station live))) None asks tt
+          (Some (made_of request (partner_of caller) (rows_of request live.rest.real) station.options (starting_of station live))) None asks refl tt
           (record { request = request; options = station.options; starting = starting_of station live; read = unlimited station.options caller.mac before blocks request read; made = refl; numbered = number_now_is station live; answer = refl }) tt
           (inl refl) (connected_related blocks request before
           (Some (made_of request (partner_of caller) (rows_of request live.rest.real) station.options (starting_of station live)))
           (unlimited station.options caller.mac before blocks request read))
-      connects_as (Err why) asks read plain = fails (connect_log {A = List ℕ} blocks (Err why) live.rest.units live.rest.log) operation.Connect why before asks plain refl
+      connects_as (Err why) asks read plain = fails (connect_log {A = List ℕ} blocks (Err why) live.rest.units live.rest.log) operation.Connect why before asks refl plain refl
 
       keeps_as : (header : IodWriteReq) (write : Write) (value : TakenRecord) (link : Option RelationState) (kept : Result Records CallFault) → operation_of call.header.operation ≡ Some operation.Write
           → writing_of (uuid_of before) live.rest.real blocks ≡ Ok (One write) → write.effect ≡ Keeps value → before ≡ link → keeping value link ≡ kept → IsPlainIn kept
           → Comes_to heard (served station live caller call operation.Write (kept_answer header kept) (updated (answered (Named (partner_of caller)) kept) (updated (taking kept) link)) [])
-      keeps_as header write value link (Err why) asks judged keeps was is plain = fails unlogged operation.Write why link asks plain was
+      keeps_as header write value link (Err why) asks judged keeps was is plain = fails unlogged operation.Write why link asks refl plain was
       keeps_as header write value None (Ok more) asks judged keeps was is plain = absurd cc
-      keeps_as header write value (Some link) (Ok more) asks judged keeps was is plain = serves unlogged operation.Write (Ok (answer_of header)) (Some (restarted (partner_of caller) (with_records more link))) None asks tt
+      keeps_as header write value (Some link) (Ok more) asks judged keeps was is plain = serves unlogged operation.Write (Ok (answer_of header)) (Some (restarted (partner_of caller) (with_records more link))) None asks refl tt
           (inl (record {
             link = link;
             was = was;
@@ -1560,9 +1612,9 @@ module _ (rules : Rules TakenRecord Request) (activity : List ℕ) (station : St
           → writing_of (uuid_of before) live.rest.real blocks ≡ Ok (One write) → write.effect ≡ Stores value → IsPlainIn outcome
           → Comes_to heard (served station live caller call operation.Write outcome (updated (answered (Named (partner_of caller)) outcome) before) [])
       stores_as write value (Ok octets) asks judged is plain =
-          serves unlogged operation.Write (Ok octets) (updated (Named (partner_of caller)) before) None asks tt
+          serves unlogged operation.Write (Ok octets) (updated (Named (partner_of caller)) before) None asks refl tt
           (inr (inl (record { write = write; judged = judged; value = value; stores = is; same = (partner_of caller, refl) }))) tt (inl tt)
-      stores_as write value (Err why) asks judged is plain = fails unlogged operation.Write why before asks plain refl
+      stores_as write value (Err why) asks judged is plain = fails unlogged operation.Write why before asks refl plain refl
 
       effect_as : (write : Write) (effect : Effect) → operation_of call.header.operation ≡ Some operation.Write → writing_of (uuid_of before) live.rest.real blocks ≡ Ok (One write)
           → write.effect ≡ effect → Comes_to heard (handled_effect station live caller call write.request effect)
@@ -1577,7 +1629,7 @@ module _ (rules : Rules TakenRecord Request) (activity : List ℕ) (station : St
       each_as header entries asks judged = λ answers.
           let each = judged_each station.named (uuid_of before) live.rest.real entries in
           let takes = each_takes (partner_of caller) each before in
-          serves unlogged operation.Write (Ok (several_answer header each answers before)) (updated (Named (partner_of caller)) (link_behind each before)) None asks tt
+          serves unlogged operation.Write (Ok (several_answer header each answers before)) (updated (Named (partner_of caller)) (link_behind each before)) None asks refl tt
           (inr (inr (record {
             header = header;
             entries = entries;
@@ -1595,13 +1647,13 @@ module _ (rules : Rules TakenRecord Request) (activity : List ℕ) (station : St
           → Comes_to heard (handled_write station live caller call writing)
       writes_as (Ok (One write)) asks judged plain = effect_as write write.effect asks judged refl
       writes_as (Ok (Each header entries)) asks judged plain = each_as header entries asks judged
-      writes_as (Err why) asks judged plain = fails unlogged operation.Write why before asks plain refl
+      writes_as (Err why) asks judged plain = fails unlogged operation.Write why before asks refl plain refl
 
       reads_as : (read : Result (List ℕ) CallFault) → operation_of call.header.operation ≡ Some operation.Read → IsPlainIn read
           → Comes_to heard (served station live caller call operation.Read read (updated (answered (Named (partner_of caller)) read) before) [])
-      reads_as (Ok octets) asks plain = serves unlogged operation.Read (Ok octets) (updated (Named (partner_of caller)) before) None asks tt
+      reads_as (Ok octets) asks plain = serves unlogged operation.Read (Ok octets) (updated (Named (partner_of caller)) before) None asks refl tt
           (partner_of caller, refl) tt (inl tt)
-      reads_as (Err why) asks plain = fails unlogged operation.Read why before asks plain refl
+      reads_as (Err why) asks plain = fails unlogged operation.Read why before asks refl plain refl
 
       -- a relation after PrmEnd
       abbrev controlled : Bool → Option RelationState → Result ControlBlock CallFault → Option RelationState
@@ -1610,10 +1662,10 @@ module _ (rules : Rules TakenRecord Request) (activity : List ℕ) (station : St
       controls_as : (by_application : Bool) (link : Option RelationState) (ended : Result ControlBlock CallFault) → operation_of call.header.operation ≡ Some operation.Control → before ≡ link → prm_end_of link blocks ≡ ended → IsPlainIn ended
           → Comes_to heard (served station live caller call operation.Control (ended >>= λ block. Ok (block_bytes (variant.PrmEndRes (done_of block)))) (controlled by_application link ended)
           (ready_behind by_application from (controlled by_application link ended) ended))
-      controls_as by_application link (Err why) asks was is plain = fails unlogged operation.Control why link asks plain was
+      controls_as by_application link (Err why) asks was is plain = fails unlogged operation.Control why link asks refl plain was
       controls_as by_application None (Ok block) asks was is plain = absurd (prm_started None blocks block is)
       controls_as true (Some link) (Ok block) asks was is plain =
-          serves unlogged operation.Control (Ok (block_bytes (variant.PrmEndRes (done_of block)))) (Some (restarted (partner_of caller) (parameterized_from true link))) None asks tt
+          serves unlogged operation.Control (Ok (block_bytes (variant.PrmEndRes (done_of block)))) (Some (restarted (partner_of caller) (parameterized_from true link))) None asks refl tt
           (inl (record {
             link = link;
             was = was;
@@ -1624,7 +1676,7 @@ module _ (rules : Rules TakenRecord Request) (activity : List ℕ) (station : St
           })) tt (inl tt)
       controls_as false (Some link) (Ok block) asks was is plain =
           let after = restarted (partner_of caller) (parameterized_from false link) in
-          serves unlogged operation.Control (Ok (block_bytes (variant.PrmEndRes (done_of block)))) (Some after) (Some (Readying (ready_of after))) asks tt
+          serves unlogged operation.Control (Ok (block_bytes (variant.PrmEndRes (done_of block)))) (Some after) (Some (Readying (ready_of after))) asks refl tt
           (inl (record { link = link; was = was; started = prm_started (Some link) blocks block is; by_application = false; source = partner_of caller; becomes = refl }))
           (record { link = link; is = was; header = refl; block = refl }, record { link = after; is = refl; awaits = refl }) (inl tt)
 
@@ -1634,7 +1686,7 @@ module _ (rules : Rules TakenRecord Request) (activity : List ℕ) (station : St
           → Comes_to heard (served station live caller call operation.Control (plug_end_answer ended)
           (calling_after ended (updated (answered (Named (partner_of caller)) ended) (ended_by by_application ended (Some link))))
           (call_after ended from (updated (answered (Named (partner_of caller)) ended) (ended_by by_application ended (Some link)))))
-      plugged_as link was told asks by_application (Err why) plain = fails unlogged operation.Control why (Some link) asks plain was
+      plugged_as link was told asks by_application (Err why) plain = fails unlogged operation.Control why (Some link) asks refl plain was
       plugged_as link was told asks by_application (Ok block) plain =
           let ended_plugs = ended block.alarm_sequence_number (not by_application) link.plugs in
           let next : RelationState = restarted (partner_of caller) (record link { plugs = ended_plugs }) in
@@ -1675,12 +1727,12 @@ module _ (rules : Rules TakenRecord Request) (activity : List ℕ) (station : St
       releases_as : (link : Option RelationState) (ended : Result ControlBlock CallFault) → operation_of call.header.operation ≡ Some operation.Release → before ≡ link → release_of link blocks ≡ ended → IsPlainIn ended
           → Comes_to heard (served station (releasing (ended >>= λ block. Ok (block_bytes (variant.ReleaseRes (done_of block))))) caller call operation.Release
           (ended >>= λ block. Ok (block_bytes (variant.ReleaseRes (done_of block)))) (updated (answered Ended ended) link) [])
-      releases_as link (Err why) asks was is plain = fails unlogged operation.Release why link asks plain was
+      releases_as link (Err why) asks was is plain = fails unlogged operation.Release why link asks refl plain was
       releases_as None (Ok block) asks was is plain = absurd (never_released blocks block is)
       releases_as (Some link) (Ok block) asks was is plain =
           serves_with live.rest.made (release_log (uuid_of before) (Ok block) live.rest.units live.rest.log)
           (left_asked (uuid_of before) live.rest.asked) operation.Release
-          (Ok (block_bytes (variant.ReleaseRes (done_of block)))) None None asks tt (record { link = link; was = was; gone = refl }) tt
+          (Ok (block_bytes (variant.ReleaseRes (done_of block)))) None None asks refl tt (record { link = link; was = was; gone = refl }) tt
           (left_still (uuid_of before) live.rest.asked)
           (λ related. nothing_related None (left_asked (uuid_of before) live.rest.asked) (left_none before live.rest.asked related))
 
@@ -1700,7 +1752,7 @@ module _ (rules : Rules TakenRecord Request) (activity : List ℕ) (station : St
 
       -- ---- a call for a record of the application
 
-      module _ (which : Operation) (asks : operation_of call.header.operation ≡ Some which) (asking : Asking)
+      module _ (which : Operation) (asks : operation_of call.header.operation ≡ Some which) (stored : is_kept station.options which ≡ true) (asking : Asking)
           (asking_is : asking_of live.rest.real station.named (uuid_of before) caller call blocks which ≡ Ok (Some asking))
           (by : IsAskedBy (uuid_of before) caller call which asking) where
         abbrev for_record : IsForRecord station live heard asking
@@ -1720,6 +1772,27 @@ module _ (rules : Rules TakenRecord Request) (activity : List ℕ) (station : St
           of_call = by.of_call;
         }
 
+        -- what is asked then is this call
+        same_asked : (question : Question) → Some asking.0 ≡ Some question → question ≡ question_of caller call by.wanted by.name
+        same_asked question e = sym (some_is asking.0 question e) ∙ by.of_call
+
+        asks_this : (question : Question) → Some asking.0 ≡ Some question → IsAsking heard question
+        asks_this question e =
+            let same = same_asked question e in
+            record {
+              address = address;
+              call = call;
+              is = ap (λ (c : Caller). Reported c address (Calls call)) (sym (ap (λ (q : Question). q.caller) same));
+              header = ap (λ (q : Question). q.header) same;
+              maximum = ap (λ (q : Question). q.args_maximum) same;
+              asks = asks ∙ ap (λ (o : Operation). let x : Option Operation = Some o in x)
+                  (sym (ap (λ (q : Question). operation_asked q.request) same ∙ by.operation_is));
+            }
+
+        related_this : (question : Question) → Some asking.0 ≡ Some question
+            → (uuid : List ℕ) × (uuid_of before ≡ Some uuid) × (is_of_relation uuid question.request ≡ true)
+        related_this question e = (by.uuid, by.in_one, ap (λ (q : Question). is_of_relation by.uuid q.request) (same_asked question e) ∙ by.own)
+
         -- it is asked
         puts : question_in live.rest.asked ≡ None → Comes_to heard (Moves (record live.rest { asked = asked_with asking.0 asking.1 live.rest.asked }) [])
         puts free = λ answers. record {
@@ -1730,20 +1803,86 @@ module _ (rules : Rules TakenRecord Request) (activity : List ℕ) (station : St
           answers = inl refl;
           orderly = λ orderly. orderly;
           owed = tt;
-          asked = λ question e. inr (record {
-            address = address;
-            call = call;
-            is = ap (λ (c : Caller). Reported c address (Calls call)) (sym (ap (λ (q : Question). q.caller) (same question e)));
-            header = ap (λ (q : Question). q.header) (same question e);
-            maximum = ap (λ (q : Question). q.args_maximum) (same question e);
-            asks = asks ∙ ap (λ (o : Operation). let x : Option Operation = Some o in x)
-                (sym (ap (λ (q : Question). operation_asked q.request) (same question e) ∙ by.operation_is));
-          });
-          related = λ related question e. (by.uuid, by.in_one, ap (λ (q : Question). is_of_relation by.uuid q.request) (same question e) ∙ by.own);
+          asked = λ question e. inr (asks_this question e);
+          related = λ related question e. related_this question e;
         }
-          where
-            same : (question : Question) → Some asking.0 ≡ Some question → question ≡ question_of caller call by.wanted by.name
-            same question e = sym (some_is asking.0 question e) ∙ by.of_call
+
+        -- ---- a Read Implicit gives way to it
+
+        module _ (other : Question) (asked : question_in live.rest.asked ≡ Some other) (implicit : is_implicit other.request ≡ true)
+            (own_first : station.options.asks_own_first ≡ true) where
+          abbrev busy_reply : Sent
+          busy_reply = refused_reply from Busy other
+
+          -- what is stored of its response, and what is sent
+          pub record IsRefused (calls : List Answer) (sent : List Sent) : Type 0 where
+            pub calm : AreCalm before sent
+            pub answers : (calls ≡ live.rest.calls) ⊎ Answers station.identity live.rest.calls calls sent
+            pub owed : AllByRecursion (IsOwed heard live) sent
+
+          unsent : IsRefused live.rest.calls []
+          unsent = record { calm = tt; answers = inl refl; owed = tt }
+
+          busy_owed : AllByRecursion (IsOwed heard live) (busy_reply ∷ [])
+          busy_owed = (inr (record { question = other; is = asked; own = refl; header = refl; maximum = refl }), tt)
+
+          by_looked : (reported : Looked)
+              → IsRefused (behind_reported 4 (kept_reply station.identity other busy_reply) live.rest.calls reported) (where_due (is_new_call reported) (busy_reply ∷ []))
+          by_looked new = record {
+            calm = (tt, tt);
+            answers = inr (record {
+              call = call_of other;
+              caller = other.caller;
+              address = from;
+              answer = answer_to (call_of other) (unanswered_status (operation_asked other.request) Busy) [];
+              first = [];
+              others = [];
+              keeps = refl;
+              sends = refl;
+            });
+            owed = busy_owed;
+          }
+          by_looked (again frame) = unsent
+          by_looked old = unsent
+
+          by_stored : (kept : Bool) → IsRefused (calls_after kept station.identity other busy_reply live.rest.calls) (question_replies kept other busy_reply live.rest.calls)
+          by_stored true = by_looked (looked other.header.activity other.header.sequence live.rest.calls)
+          by_stored false = record { calm = (tt, tt); answers = inl refl; owed = busy_owed }
+
+          by_address : (zero : Bool)
+              → IsRefused (cond zero live.rest.calls (calls_after (is_stored other) station.identity other busy_reply live.rest.calls))
+              (cond zero [] (question_replies (is_stored other) other busy_reply live.rest.calls))
+          by_address true = unsent
+          by_address false = by_stored (is_stored other)
+
+          displaces : Comes_to heard (handled_question station live asking.0 (Some other) (Some (asked_with asking.0 asking.1 (settled live.rest.asked))))
+          displaces answers =
+              let refused = by_address (is_zero from) in
+              record {
+                does = inr (inr (inr (inr (inr (inr (inr (inr (record {
+                  question = other;
+                  asked = asked;
+                  implicit = implicit;
+                  link = inl refl;
+                  does = inr (record {
+                    asking = asking;
+                    new_call = for_record;
+                    own_first = own_first;
+                    link = refl;
+                    becomes = refl;
+                    calls = refl;
+                    sends = refl;
+                  });
+                }))))))));
+                is = inl (record { link = inl refl; calm = refused.calm });
+                diagnoses = inl refl;
+                modules = inl refl;
+                answers = refused.answers;
+                orderly = λ orderly. orderly;
+                owed = refused.owed;
+                asked = λ question e. inr (asks_this question e);
+                related = λ related question e. related_this question e;
+              }
 
         -- another one is asked, so this one is refused
         abbrev busy_answer : Sent
@@ -1790,26 +1929,43 @@ module _ (rules : Rules TakenRecord Request) (activity : List ℕ) (station : St
             Moves (record live.rest { calls = behind_reported 4 (kept_for station.identity call answer) live.rest.calls reported })
             (where_due (is_new_call reported) (answer ∷ []))
 
-        declined_as : (other : Question) → question_in live.rest.asked ≡ Some other → Comes_to heard (handled_question station live asking.0 None)
+        -- the same, which is stored or not
+        abbrev reply_so : Operation → Bool → Handled
+        reply_so one kept =
+            let answer = CallAnswer caller from (answer_to call (unanswered_status one Busy) []) in
+            Moves (record live.rest { calls = behind_if kept (kept_for station.identity call answer) live.rest.calls })
+            (where_due (is_new_call (looked_if kept call.header.activity call.header.sequence live.rest.calls)) (answer ∷ []))
+
+        declined_as : (other : Question) → question_in live.rest.asked ≡ Some other → Comes_to heard (handled_question station live asking.0 None None)
         declined_as other is =
-            subst (λ (q : Question). Comes_to heard (handled_question station live q None)) (sym by.of_call)
-            (subst (λ (o : Operation). Comes_to heard (reply_with o (looked call.header.activity call.header.sequence live.rest.calls))) (sym by.operation_is)
-            (subst (λ (reported : Looked). Comes_to heard (reply_with which reported)) (sym fresh) (declines other is)))
+            subst (λ (q : Question). Comes_to heard (handled_question station live q None None)) (sym by.of_call)
+            (subst (λ (o : Operation). Comes_to heard (reply_so o (is_kept station.options o))) (sym by.operation_is)
+            (subst (λ (kept : Bool). Comes_to heard (reply_so which kept)) (sym stored)
+            (subst (λ (reported : Looked). Comes_to heard (reply_with which reported)) (sym fresh) (declines other is))))
 
         asks_as : (standing : Option AskedStanding) → live.rest.asked.standing ≡ standing
-            → Comes_to heard (handled_question station live asking.0 (asks_beside asking.0 asking.1 live.rest.asked standing))
+            → Comes_to heard (handled_question station live asking.0 None (asks_beside asking.0 asking.1 live.rest.asked standing))
         asks_as None is = puts (ap (λ (s : Option AskedStanding). option_map (λ (t : AskedStanding). t.question) s) is)
         asks_as (Some standing) is = declined_as standing.question (ap (λ (s : Option AskedStanding). option_map (λ (t : AskedStanding). t.question) s) is)
 
+        -- by what it displaces
+        question_as : (displaced : Option Question) → displaced_by station.options.asks_own_first asking.0 live.rest.asked ≡ displaced
+            → Comes_to heard (handled_asked station live asking displaced)
+        question_as None is = asks_as live.rest.asked.standing refl
+        question_as (Some other) is =
+            let there = displaced_is station.options.asks_own_first asking.0 live.rest.asked other is in
+            displaces other there.1 there.2 there.0
+
       -- a Read or a Write, by what it asks
       asking_as : (which : Operation) (asking : Result (Option Asking) CallFault) → operation_of call.header.operation ≡ Some which
-          → asking_of live.rest.real station.named (uuid_of before) caller call blocks which ≡ asking → IsPlainIn asking
+          → is_kept station.options which ≡ true → asking_of live.rest.real station.named (uuid_of before) caller call blocks which ≡ asking → IsPlainIn asking
           → ((some : Asking) → asking ≡ Ok (Some some) → IsAskedBy (uuid_of before) caller call which some)
           → IsPlannedAs rules station.named live.rest.real call.header.sequence blocks (Some which)
           → Comes_to heard (handled_asking station live caller call blocks which asking)
-      asking_as which (Ok None) asks is plain by plan = own_call which asks plan
-      asking_as which (Ok (Some asking)) asks is plain by plan = asks_as which asks asking is (by asking refl) live.rest.asked.standing refl
-      asking_as which (Err why) asks is plain by plan = fails unlogged which why before asks plain refl
+      asking_as which (Ok None) asks stored is plain by plan = own_call which asks plan
+      asking_as which (Ok (Some asking)) asks stored is plain by plan =
+          question_as which asks stored asking is (by asking refl) (displaced_by station.options.asks_own_first asking.0 live.rest.asked) refl
+      asking_as which (Err why) asks stored is plain by plan = fails unlogged which why before asks stored plain refl
 
       new_call : (which : Operation) → operation_of call.header.operation ≡ Some which
           → IsPlannedAs rules station.named live.rest.real call.header.sequence blocks (Some which)
@@ -1818,11 +1974,11 @@ module _ (rules : Rules TakenRecord Request) (activity : List ℕ) (station : St
       new_call operation.Release asks plan = own_call operation.Release asks plan
       new_call operation.Control asks plan = own_call operation.Control asks plan
       new_call operation.Write asks plan =
-          asking_as operation.Write (asking_of live.rest.real station.named (uuid_of before) caller call blocks operation.Write) asks refl
+          asking_as operation.Write (asking_of live.rest.real station.named (uuid_of before) caller call blocks operation.Write) asks refl refl
           (asking_plain live.rest.real station.named (uuid_of before) caller call blocks operation.Write)
           (λ asking is. write_asks live.rest.real station.named (uuid_of before) caller call asking blocks (write_within (uuid_of before) blocks) refl is) plan
       new_call operation.Read asks plan =
-          asking_as operation.Read (asking_of live.rest.real station.named (uuid_of before) caller call blocks operation.Read) asks refl
+          asking_as operation.Read (asking_of live.rest.real station.named (uuid_of before) caller call blocks operation.Read) asks refl refl
           (asking_plain live.rest.real station.named (uuid_of before) caller call blocks operation.Read)
           (λ asking is. read_asks live.rest.real station.named (uuid_of before) caller call asking blocks (request_within (uuid_of before) blocks) refl is) plan
       new_call operation.ReadImplicit asks plan = absurd plan
@@ -1864,13 +2020,25 @@ module _ (rules : Rules TakenRecord Request) (activity : List ℕ) (station : St
     looked_call blocks which (again frame) asks counted reported plan = repeats frame reported
     looked_call blocks which old asks counted reported plan = refuses heard note.OldCall
 
+    -- the response to a call that is planned is stored
+    planned_stored : (which : Operation) (blocks : List ℕ) → IsPlannedAs rules station.named live.rest.real call.header.sequence blocks (Some which)
+        → is_kept station.options which ≡ true
+    planned_stored operation.Connect blocks plan = refl
+    planned_stored operation.Release blocks plan = refl
+    planned_stored operation.Read blocks plan = refl
+    planned_stored operation.Write blocks plan = refl
+    planned_stored operation.Control blocks plan = refl
+    planned_stored operation.ReadImplicit blocks plan = absurd plan
+
     counted_call : (which : Operation) (counted : Option (List ℕ)) (blocks : List ℕ) → operation_of call.header.operation ≡ Some which → call.blocks ≡ counted → counted ≡ Some blocks
         → IsPlannedAs rules station.named live.rest.real call.header.sequence blocks (Some which)
         → Comes_to heard (handled_blocks station live caller call which counted)
     counted_call which None blocks asks counted there plan = absurd cc
     counted_call which (Some found) blocks asks counted there plan =
-        looked_call found which (looked call.header.activity call.header.sequence live.rest.calls) asks counted refl
-        (subst (λ (b : List ℕ). IsPlannedAs rules station.named live.rest.real call.header.sequence b (Some which)) (sym (some_is found blocks there)) plan)
+        let planned = subst (λ (b : List ℕ). IsPlannedAs rules station.named live.rest.real call.header.sequence b (Some which)) (sym (some_is found blocks there)) plan in
+        subst (λ (kept : Bool). Comes_to heard (handled_looked station live caller call found which
+        (looked_if kept call.header.activity call.header.sequence live.rest.calls))) (sym (planned_stored which found planned))
+        (looked_call found which (looked call.header.activity call.header.sequence live.rest.calls) asks counted refl planned)
 
     called : (which : Option Operation) (blocks : List ℕ) → operation_of call.header.operation ≡ which → call.blocks ≡ Some blocks
         → IsPlannedAs rules station.named live.rest.real call.header.sequence blocks which → Comes_to heard (handled_call station live caller call which)

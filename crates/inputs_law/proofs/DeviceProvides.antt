@@ -11,7 +11,7 @@ use Rattle.dcp_core.specs.declared.request.Service.TheVariants as service
 use Rattle.dcp_core.specs.Request.{Asked}
 use Rattle.dcp_core.specs.Identify.{matches}
 use Rattle.dcp_core.specs.Set.{plan_of}
-use Rattle.rpc_core.specs.Cache.{Reported as Looked, new, again, old, looked}
+use Rattle.rpc_core.specs.Cache.{Reported as Looked, new, again, old}
 use Rattle.rpc_core.specs.Call.{Asked as Call}
 use Rattle.rpc_core.specs.Response.{Answered}
 use Rattle.rpc_core.specs.declared.response.Status.{Status}
@@ -31,7 +31,7 @@ use Rattle.records.specs.writes.Asked.{writing_of}
 use Rattle.records.specs.calls.Naming.{is_relation}
 use Rattle.device_records.specs.Reading.{implicit_read, relation_read}
 use Rattle.asked_records.specs.Answers.{Gives as GivesAnswer, gives_octets, gives_done, gives_refusal, is_refusal, judged}
-use Rattle.asked_records.specs.Asked.{AskedState, asks, is_repeat}
+use Rattle.asked_records.specs.Asked.{AskedState, asks, behind_displaced, displaced_by, is_repeat}
 use Rattle.asked_records.specs.Questions.{header_of}
 use Rattle.asked_records.specs.declared.answering.AnswerFault.{AnswerFault}
 use Rattle.asked_records.specs.declared.question.Question.{Question}
@@ -97,7 +97,7 @@ use Rattle.settings_journal.specs.settings_store.Machine.{Outcome, carried}
 use Rattle.device_core.specs.State.{Station, Live, Rest, alias_in}
 use Rattle.device_core.specs.Modules.{calling_after, changed_rest, outside, plug_of, pull_of, sent_after, slot_pull_of}
 use Rattle.device_core.specs.Handled.{change_of, handled, Handled, handled_alarm, handled_answer, handled_asking, handled_blocks, handled_call, handled_change, handled_effect, handled_input, handled_judged, handled_looked, handled_low, handled_low_message, handled_low_pdu, handled_message, handled_modules, handled_new, handled_next_call, handled_notice, handled_own, handled_pdu, handled_plug_answer, handled_plug_end, handled_prm_end, handled_question, handled_received, handled_request, handled_said, handled_unanswered, handled_write, implicitly, is_request, is_running, kept_status, known_of, may_be_diagnosed, Moves, partner_of, Refuses, starting_of, ticked}
-use Rattle.device_core.specs.Asking.{Asking, asking_of, source_of}
+use Rattle.device_core.specs.Asking.{Asking, asking_of, is_kept, looked_if, source_of}
 use Rattle.device_core.specs.Several.{Judged, judged_each}
 use Rattle.device_core.specs.Machine.{Finished, effect_link, finished, first_answer, handled_step, heard_step, items_in, link_after, link_behind, one_link, resets, written_as}
 use Rattle.relations.specs.declared.options.DeviceOptions.{DeviceOptions}
@@ -188,14 +188,16 @@ module _ (station : Station) (live : Live) where
       kept_if (is_plug_control blocks live.rest.link) _ _ (λ answers. refl) (λ answers. refl)
   own_said caller call blocks operation.ReadImplicit = λ answers. refl
 
-  question_said : (question : Question) (asked : Option AskedState) → KeepsSaid (handled_question station live question asked)
-  question_said question (Some asked) = λ answers. refl
-  question_said question None = λ answers. refl
+  question_said : (question : Question) (displaced : Option Question) (asked : Option AskedState) → KeepsSaid (handled_question station live question displaced asked)
+  question_said question displaced (Some asked) = λ answers. refl
+  question_said question displaced None = λ answers. refl
 
   asking_said : (caller : Caller) (call : Call) (blocks : List ℕ) (which : Operation) (asking : Result (Option Asking) CallFault)
       → KeepsSaid (handled_asking station live caller call blocks which asking)
   asking_said caller call blocks which (Ok None) = own_said caller call blocks which
-  asking_said caller call blocks which (Ok (Some asking)) = question_said asking.0 (asks asking.0 asking.1 live.rest.asked)
+  asking_said caller call blocks which (Ok (Some asking)) =
+      let displaced = displaced_by station.options.asks_own_first asking.0 live.rest.asked in
+      question_said asking.0 displaced (asks asking.0 asking.1 (behind_displaced displaced live.rest.asked))
   asking_said caller call blocks which (Err why) = λ answers. refl
 
   unanswered_said : (caller : Caller) (call : Call) (blocks : List ℕ) (which : Operation) → KeepsSaid (handled_unanswered station live caller call blocks which)
@@ -210,7 +212,8 @@ module _ (station : Station) (live : Live) where
 
   counted_said : (caller : Caller) (call : Call) (which : Operation) (blocks : Option (List ℕ)) → KeepsSaid (handled_blocks station live caller call which blocks)
   counted_said caller call which None = λ answers. refl
-  counted_said caller call which (Some blocks) = looked_said caller call blocks which (looked call.header.activity call.header.sequence live.rest.calls)
+  counted_said caller call which (Some blocks) =
+      looked_said caller call blocks which (looked_if (is_kept station.options which) call.header.activity call.header.sequence live.rest.calls)
 
   call_said : (caller : Caller) (call : Call) (which : Option Operation) → KeepsSaid (handled_call station live caller call which)
   call_said caller call None = λ answers. refl
@@ -541,14 +544,16 @@ module _ (station : Station) (before : Live) (link : RelationState) where
         (alive (partner_of caller) _) calm_stands
 
     -- what it asks of the application
-    question_call : (question : Question) (asked : Option AskedState) → Stays (handled_question station live question asked)
-    question_call question (Some asked) = λ answers. calm_stands
-    question_call question None = λ answers. calm_stands
+    question_call : (question : Question) (displaced : Option Question) (asked : Option AskedState) → Stays (handled_question station live question displaced asked)
+    question_call question displaced (Some asked) = λ answers. calm_stands
+    question_call question displaced None = λ answers. calm_stands
 
     asking_call : (call : Call) (blocks : List ℕ) (which : Operation) (asking : Result (Option Asking) CallFault)
         → Stays (handled_asking station live caller call blocks which asking)
     asking_call call blocks which (Ok None) = own_call call blocks which
-    asking_call call blocks which (Ok (Some asking)) = question_call asking.0 (asks asking.0 asking.1 live.rest.asked)
+    asking_call call blocks which (Ok (Some asking)) =
+        let displaced = displaced_by station.options.asks_own_first asking.0 live.rest.asked in
+        question_call asking.0 displaced (asks asking.0 asking.1 (behind_displaced displaced live.rest.asked))
     asking_call call blocks which (Err why) = λ answers. calm_stands
 
     unanswered_call : (call : Call) (blocks : List ℕ) (which : Operation) → Stays (handled_unanswered station live caller call blocks which)
@@ -563,7 +568,8 @@ module _ (station : Station) (before : Live) (link : RelationState) where
 
     counted_call : (call : Call) (which : Operation) (blocks : Option (List ℕ)) → Stays (handled_blocks station live caller call which blocks)
     counted_call call which None = λ answers. calm_stands
-    counted_call call which (Some blocks) = looked_call call blocks which (looked call.header.activity call.header.sequence live.rest.calls)
+    counted_call call which (Some blocks) =
+        looked_call call blocks which (looked_if (is_kept station.options which) call.header.activity call.header.sequence live.rest.calls)
 
     called : (call : Call) (which : Option Operation) → Stays (handled_call station live caller call which)
     called call None = refuses note.Fault

@@ -1,6 +1,7 @@
 -- The inputs that a device sends: those of its relation, with a unit; and those with which a relation begins.
 use Rattle.std.proofs.Common.{◌≡◌, ◌⊎◌, inl, inr, ◌||◌, ◌++◌, ℕ, Bool, true, false, List, [], ◌∷◌, length, Option, Some, None, option_map, Result, Ok, Err, refl, sym, ap, subst, ◌∙◌}
 use Rattle.std.specs.Prelude.{if◌then◌else◌}
+use Rattle.std.proofs.lemmas.Bool.{cond_both}
 use Rattle.std.specs.List.{AllByRecursion}
 use Rattle.pn_values.specs.declared.real.RealModule.{RealModule}
 use Rattle.pn_values.specs.declared.set_item.BlockError.{BlockError}
@@ -37,8 +38,12 @@ use Rattle.device_frames.specs.declared.note.Note.TheVariants as note
 use Rattle.settings_journal.specs.settings_store.Machine.{Outcome, carried}
 use Rattle.device_core.specs.State.{Station, Live, counter_of, units_after}
 use Rattle.device_core.specs.Handled.{counted_sent, handled, Handled, handled_blocks, handled_call, handled_looked, handled_new, handled_unanswered, is_running, Moves, partner_of, Refuses, starting_of, unit_rest, unit_sent}
-use Rattle.device_core.specs.Asking.{is_new, late_in, late_reply, late_sent}
+use Rattle.device_core.specs.Asking.{is_kept, is_new, late_in, late_sent, looked_if, refused_reply}
+use Rattle.pn_values.specs.IpSuite.{is_zero}
+use Rattle.relations.specs.declared.options.DeviceOptions.{DeviceOptions}
 use Rattle.asked_records.specs.Asked.{is_repeat}
+use Rattle.asked_records.specs.Questions.{operation_of as operation_asked}
+use Rattle.asked_records.specs.declared.status.Unanswered.TheVariants.{Late}
 use Rattle.asked_records.specs.declared.question.Question.{Question}
 use Rattle.device_core.specs.Machine.{Stepped, finished, handled_step, heard_step, items_in}
 use Rattle.end_laws.specs.device.Exchange.{is_inputs, sends_inputs}
@@ -139,10 +144,13 @@ module _ (none : Image) (address : List ℕ) (counter : ℕ) (link : RelationSta
 -- ---- a device with a relation
 
 -- a call that has no answer in time is refused: that is no frame of inputs
-late_silent : (shown : Image) (address : List ℕ) (found : Option Question) (calls : List Answer) → AreOfImage shown (late_sent address found calls)
-late_silent shown address None calls = tt
-late_silent shown address (Some question) calls =
-    if_due shown (is_new (looked question.header.activity question.header.sequence calls)) (late_reply address question ∷ []) (tt, tt)
+late_silent : (shown : Image) (options : DeviceOptions) (address : List ℕ) (found : Option Question) (calls : List Answer)
+    → AreOfImage shown (late_sent options address found calls)
+late_silent shown options address None calls = tt
+late_silent shown options address (Some question) calls =
+    let kept = is_kept options (operation_asked question.request) in
+    cond_both (is_zero address) _ _ (AreOfImage shown) (λ _. tt)
+    (λ _. if_due shown (is_new (looked_if kept question.header.activity question.header.sequence calls)) (refused_reply address Late question ∷ []) (tt, tt))
 
 module _ (none : Image) (outcomes : List Outcome) (station : Station) where
   abbrev AreSent : Stepped → Type 0
@@ -155,9 +163,9 @@ module _ (none : Image) (outcomes : List Outcome) (station : Station) where
       let address = live.values.running.suite.address in
       let shown = image_in none (updated (passing_by (ending_of link)) (Some link)) in
       let later = unit_rest live in
-      both shown (unit_sent live) (counted_sent address (length (unit_sent live)) later)
+      both shown (unit_sent live) (counted_sent station address (length (unit_sent live)) later)
       (unit_by none address (counter_of (units_after 1 live.rest.units)) link (ending_of link))
-      (late_silent shown address (late_in (length (unit_sent live)) later.asked) later.calls)
+      (late_silent shown station.options address (late_in (length (unit_sent live)) later.asked) later.calls)
 
   ticks_sent : (live : Live) (link : RelationState) → live.rest.link ≡ Some link → AreSent (heard_step outcomes station live Ticks)
   ticks_sent live link is =

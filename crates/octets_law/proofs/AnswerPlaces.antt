@@ -1,6 +1,6 @@
 -- The answer to a call, read at fixed places of its frame.
-use Rattle.std.proofs.Common.{◌≡◌, ◌<◌, ◌==◌, ◌&&◌, ◌+◌, ◌^◌, ℕ, true, nat_eq, List, [], ◌∷◌, ◌++◌, length, take, drop, None, refl, sym, ap, subst, ◌∙◌, arith, append_assoc}
-use Rattle.std.proofs.lemmas.Bool.{and_from, cond-true}
+use Rattle.std.proofs.Common.{◌≡◌, ◌<◌, ◌==◌, ◌&&◌, ◌+◌, ◌^◌, ℕ, Bool, true, false, nat_eq, List, [], ◌∷◌, ◌++◌, length, take, drop, None, refl, sym, ap, subst, ◌∙◌, arith, append_assoc}
+use Rattle.std.proofs.lemmas.Bool.{and_from, cond-false, cond-true}
 use Rattle.std.proofs.lemmas.Bool.Decides.{nat_tests}
 use Rattle.std.proofs.lemmas.List.{append-nil}
 use Rattle.std.specs.Cmp.Lexicographic.{pointwise}
@@ -24,9 +24,8 @@ use Rattle.rpc_core.specs.Sendable.{CanBeAnswered, IsStatus}
 use Rattle.records.specs.writes.Answer.{number_of}
 use Rattle.device_frames.specs.Sent.{CallAnswer, bytes_of}
 use Rattle.device_frames.specs.Sendable.{IsSendable}
-use Rattle.octets_law.specs.Headline.{is_response}
-use Rattle.octets_law.specs.Octets.{activity_of, args_of, in_order, name_of, number, statuses, statuses_in}
-use Rattle.octets_law.proofs.CallPlaces.{args_placed, name_for, name_placed, skip}
+use Rattle.octets_law.specs.Octets.{activity_of, args_of, called, in_order, is_response, number, statuses, statuses_in}
+use Rattle.octets_law.proofs.CallPlaces.{args_placed, skip}
 use Rattle.octets_law.proofs.SetFrames.{number_front, six, take_front}
 use Rattle.octets_law.proofs.Repeats.{itself_octets}
 
@@ -69,11 +68,11 @@ response_is answer more =
 -- What is read of an answer at fixed places.
 pub record IsAnswerRead (bytes : List ℕ) (answer : Answered) : Type 0 where
   pub kind : number 0 2 bytes ≡ 0x0402
-  pub name : name_of bytes ≡ name_for answer.header.activity answer.header.sequence
   pub status : number 80 4 bytes ≡ number_of answer.status
   pub blocks : args_of bytes ≡ answer.blocks
   pub activity : activity_of bytes ≡ answer.header.activity
   pub sequence : in_order 64 4 bytes ≡ answer.header.sequence
+  pub operation : in_order 68 2 bytes ≡ answer.header.operation
 
 number_whole : (size value : ℕ) → value < 256 ^ size → big_number size (big_bytes size value) ≡ value
 number_whole size value small = ap (big_number size) (sym (append-nil (big_bytes size value))) ∙ number_front size value [] small
@@ -101,10 +100,6 @@ response_placed answer more can =
     let sized = number_whole 4 (length answer.blocks) (omega (arith, can.few)) in
     subst (λ l. IsAnswerRead l answer) (sym (response_is answer more)) (record {
       kind = refl;
-      name =
-          name_placed 4 2 0x0A 0 0 0 0 0 object interface activity boot sequence (operation ++ (ending answer ++ (body_octets answer ++ more)))
-          can.header.object can.header.interface can.header.activity refl refl
-          ∙ ap (name_for activity) (number_whole 4 answer.header.sequence (omega (arith, can.header.sequence)));
       status =
           ap (big_number 4) (skip (16 + (16 + (8 + (4 + (2 + 10))))) 16 object _ can.header.object
           ∙ skip (16 + (8 + (4 + (2 + 10)))) 16 interface _ can.header.interface ∙ skip (8 + (4 + (2 + 10))) 16 activity (behind_activity answer (body_octets answer ++ more)) can.header.activity)
@@ -121,6 +116,10 @@ response_placed answer more can =
           ap (big_number 4) (skip (16 + (16 + 8)) 16 object _ can.header.object ∙ skip (16 + 8) 16 interface _ can.header.interface
           ∙ skip 8 16 activity (behind_activity answer (body_octets answer ++ more)) can.header.activity)
           ∙ number_front 4 answer.header.sequence (operation ++ (ending answer ++ (body_octets answer ++ more))) (omega (arith, can.header.sequence));
+      operation =
+          ap (big_number 2) (skip (16 + (16 + (8 + 4))) 16 object _ can.header.object ∙ skip (16 + (8 + 4)) 16 interface _ can.header.interface
+          ∙ skip (8 + 4) 16 activity (behind_activity answer (body_octets answer ++ more)) can.header.activity)
+          ∙ number_front 2 answer.header.operation (ending answer ++ (body_octets answer ++ more)) (omega (arith, can.header.operation));
     })
 
 -- ---- a datagram
@@ -168,28 +167,17 @@ holds n m is = grind (arith, nat_tests)
 same_statuses : (n m : ℕ) (one other : List ℕ) → n ≡ m → one ≡ other → n ∷ statuses_in 16 (drop 64 one) ≡ m ∷ statuses_in 16 (drop 64 other)
 same_statuses n m one other a b = cc
 
--- The statuses in the frame of an answer to a call of this name.
-pub answer_statuses : (identity : Identity) (caller : Caller) (address : List ℕ) (answer : Answered) (call : List ℕ) → IsSendable identity (CallAnswer caller address answer)
-    → name_of call ≡ name_for answer.header.activity answer.header.sequence
-    → statuses call (bytes_of identity (CallAnswer caller address answer)) ≡ number_of answer.status ∷ statuses_in 16 (drop 64 answer.blocks)
-answer_statuses identity caller address answer call can name =
-    let frame : List ℕ = bytes_of identity (CallAnswer caller address answer) in
-    let sent = can.0 in
-    let datagram =
-    datagram_read identity.mac caller.mac (calls_at address) caller.endpoint
-    (response_bytes answer) sent.source sent.destination sent.content.0.0 sent.content.1.0 in
-    let it : IsAnswerRead (drop 42 frame) answer = subst (λ l. IsAnswerRead l answer) (sym datagram.is) (response_placed answer datagram.more can.1) in
-    let named : pointwise nat_eq (name_of (drop 42 frame)) (name_of call) ≡ true =
-    ap (pointwise nat_eq (name_of (drop 42 frame))) (name ∙ sym it.name) ∙ itself_octets (name_of (drop 42 frame)) in
-    cond-true (number 12 2 frame == 0x0800 && (number 0 2 (drop 42 frame) == 0x0402 && pointwise nat_eq (name_of (drop 42 frame)) (name_of call))) _ _
-    (and_from _ _ (holds _ 0x0800 datagram.type) (and_from _ _ (holds _ 0x0402 it.kind) named))
-    ∙ same_statuses _ _ _ _ it.status it.blocks
+named_same : (n m : ℕ) (one other : List ℕ) → n ≡ m → one ≡ other → n ∷ one ≡ m ∷ other
+named_same n m one other a b = cc
 
 -- The frame of an answer is a response, and names the call that it answers.
 pub record IsReply (frame : List ℕ) (answer : Answered) : Type 0 where
   pub is : is_response frame ≡ true
+  pub name : called (drop 42 frame) ≡ answer.header.sequence ∷ answer.header.activity
   pub activity : activity_of (drop 42 frame) ≡ answer.header.activity
-  pub sequence : in_order 64 4 (drop 42 frame) ≡ answer.header.sequence
+  pub operation : in_order 68 2 (drop 42 frame) ≡ answer.header.operation
+  pub status : number 80 4 (drop 42 frame) ≡ number_of answer.status
+  pub blocks : args_of (drop 42 frame) ≡ answer.blocks
 
 pub answer_found : (identity : Identity) (caller : Caller) (address : List ℕ) (answer : Answered) → IsSendable identity (CallAnswer caller address answer)
     → IsReply (bytes_of identity (CallAnswer caller address answer)) answer
@@ -202,6 +190,34 @@ answer_found identity caller address answer can =
     let it : IsAnswerRead (drop 42 frame) answer = subst (λ l. IsAnswerRead l answer) (sym datagram.is) (response_placed answer datagram.more can.1) in
     record {
       is = and_from _ _ (holds _ 0x0800 datagram.type) (holds _ 0x0402 it.kind);
+      name = named_same _ _ _ _ it.sequence it.activity;
       activity = it.activity;
-      sequence = it.sequence;
+      operation = it.operation;
+      status = it.status;
+      blocks = it.blocks;
     }
+
+-- The statuses in the frame of an answer to a call of this name.
+pub answer_statuses : (identity : Identity) (caller : Caller) (address : List ℕ) (answer : Answered) (call : List ℕ) → IsSendable identity (CallAnswer caller address answer)
+    → called call ≡ answer.header.sequence ∷ answer.header.activity
+    → statuses call (bytes_of identity (CallAnswer caller address answer)) ≡ number_of answer.status ∷ statuses_in 16 (drop 64 answer.blocks)
+answer_statuses identity caller address answer call can name =
+    let frame : List ℕ = bytes_of identity (CallAnswer caller address answer) in
+    let it = answer_found identity caller address answer can in
+    let named : pointwise nat_eq (called (drop 42 frame)) (called call) ≡ true =
+    ap (pointwise nat_eq (called (drop 42 frame))) (name ∙ sym it.name) ∙ itself_octets (called (drop 42 frame)) in
+    cond-true (is_response frame && pointwise nat_eq (called (drop 42 frame)) (called call)) _ _ (and_from _ _ it.is named) ∙ same_statuses _ _ _ _ it.status it.blocks
+
+-- The frame of an answer to a call of another name has none.
+pub other_statuses : (identity : Identity) (caller : Caller) (address : List ℕ) (answer : Answered) (call : List ℕ) → IsSendable identity (CallAnswer caller address answer)
+    → pointwise nat_eq (answer.header.sequence ∷ answer.header.activity) (called call) ≡ false
+    → statuses call (bytes_of identity (CallAnswer caller address answer)) ≡ []
+other_statuses identity caller address answer call can other =
+    let frame : List ℕ = bytes_of identity (CallAnswer caller address answer) in
+    let it = answer_found identity caller address answer can in
+    cond-false (is_response frame && pointwise nat_eq (called (drop 42 frame)) (called call)) _ _
+    (ap (λ l. is_response frame && pointwise nat_eq l (called call)) it.name ∙ ap (λ b. is_response frame && b) other ∙ and_false (is_response frame))
+  where
+    and_false : (b : Bool) → b && false ≡ false
+    and_false true = refl
+    and_false false = refl

@@ -15,7 +15,7 @@ use Rattle.dcp_core.specs.declared.request.Service.TheVariants as service
 use Rattle.dcp_core.specs.Identify.{matches}
 use Rattle.dcp_core.specs.Request.{Asked}
 use Rattle.dcp_core.specs.Set.{plan_of}
-use Rattle.rpc_core.specs.Cache.{Reported as Looked, again, looked, new, old}
+use Rattle.rpc_core.specs.Cache.{Reported as Looked, again, new, old}
 use Rattle.rpc_core.specs.Call.{Asked as Called}
 use Rattle.rpc_core.specs.Response.{Answered}
 use Rattle.records.specs.declared.status.call_fault.CallFault.{CallFault}
@@ -38,7 +38,7 @@ use Rattle.pn_alarms.specs.Message.{ToDevice}
 use Rattle.cyclic_data.specs.declared.exchange.received.Received.{Received}
 use Rattle.cyclic_data.specs.declared.exchange.received.Received.TheVariants as received
 use Rattle.asked_records.specs.Answers.{Gives, fault_of, gives_done, gives_octets, gives_refusal, judged, judged_with, question_unless}
-use Rattle.asked_records.specs.Asked.{AskedState, Standing, asks, asks_beside, dropped_at, is_affected, is_of, is_over, is_repeat, limit, question_in, settled, ticked}
+use Rattle.asked_records.specs.Asked.{AskedState, Standing, asks, asks_beside, behind_displaced, displaced_by, dropped_at, is_affected, is_of, is_over, is_repeat, limit, not_asked, question_in, settled, ticked}
 use Rattle.asked_records.specs.declared.answering.AnswerFault.{AnswerFault}
 use Rattle.asked_records.specs.declared.answering.AnswerFault.TheVariants as fault
 use Rattle.asked_records.specs.declared.question.Question.{Question}
@@ -61,7 +61,7 @@ use Rattle.settings_journal.specs.settings_store.Machine.{Outcome, carried}
 use Rattle.device_frames.specs.declared.local.Local.{Local}
 use Rattle.device_frames.specs.declared.local.Local.TheVariants as local
 use Rattle.device_frames.specs.Heard.{Heard, Ticks, Unreadable, Elsewhere, Asks, Resolves, Reported, Cyclic, Alarms, LowReplies, LowConfirms, Met, Applied, Said, Calls, Responds, Garbled}
-use Rattle.device_core.specs.Asking.{Asking, asked_later, asking_of, ended_by, is_full, left_asked, released_by}
+use Rattle.device_core.specs.Asking.{Asking, asked_later, asking_of, ended_by, is_full, is_kept, left_asked, looked_if, released_by}
 use Rattle.device_core.specs.Handled.{Handled, change_of, handled, handled_alarm, handled_answer, handled_asking, handled_blocks, handled_call, handled_change, handled_effect, handled_input, handled_judged, handled_local, handled_looked, handled_low, handled_low_pdu, handled_modules, handled_notice, handled_own, handled_pdu, handled_plug_answer, handled_question, handled_received, handled_request, handled_response, handled_said, handled_unanswered, handled_write, is_request, is_running, kept_status, may_be_diagnosed, unit_sent}
 use Rattle.device_core.specs.Machine.{farewell_at, finished, handled_step, heard_step, items_in, resets}
 use Rattle.device_core.specs.Modules.{outside, plug_of, pull_of, slot_pull_of}
@@ -96,6 +96,9 @@ module _ (R : Question → Type 0) where
 
   pub settled_such : (state : AskedState) → IsSuch (settled state)
   settled_such state = λ question is. no_question question is
+
+  pub unasked_such : IsSuch not_asked
+  unasked_such = λ question is. no_question question is
 
   -- A relation ends, submodules are pulled, a unit passes.
   pub left_such : (uuid : Option (List ℕ)) (state : AskedState) → IsSuch state → IsSuch (left_asked uuid state)
@@ -161,17 +164,19 @@ module _ (R : Question → Type 0) where
       own_stays Control = cond_both (is_plug_control blocks live.rest.link) _ _ Stays (λ _. same) (λ _. same)
       own_stays ReadImplicit = same
 
-      question_stays : (question : Question) (asked : Option AskedState) → IsSuchIf live.rest.asked asked → Stays (handled_question station live question asked)
-      question_stays question (Some asked) such = λ answers. such
-      question_stays question None such = same
+      question_stays : (question : Question) (displaced : Option Question) (asked : Option AskedState) → IsSuchIf live.rest.asked asked
+          → Stays (handled_question station live question displaced asked)
+      question_stays question displaced (Some asked) such = λ answers. such
+      question_stays question displaced None such = same
 
       asking_stays : (operation : Operation) (asking : Result (Option Asking) CallFault)
           → asking_of live.rest.real station.named (uuid_of live.rest.link) caller call blocks operation ≡ asking → IsFresh operation
           → Stays (handled_asking station live caller call blocks operation asking)
       asking_stays operation (Ok None) is fresh = own_stays operation
       asking_stays operation (Ok (Some asking)) is fresh =
-          question_stays asking.0 (asks asking.0 asking.1 live.rest.asked)
-          (asks_such asking.0 asking.1 live.rest.asked live.rest.asked.standing (fresh asking is))
+          let displaced = displaced_by station.options.asks_own_first asking.0 live.rest.asked in
+          let state = behind_displaced displaced live.rest.asked in
+          question_stays asking.0 displaced (asks asking.0 asking.1 state) (asks_such asking.0 asking.1 state state.standing (fresh asking is))
       asking_stays operation (Err why) is fresh = same
 
       unanswered_stays : (operation : Operation) → IsFresh operation → Stays (handled_unanswered station live caller call blocks operation)
@@ -193,7 +198,8 @@ module _ (R : Question → Type 0) where
         → operation_of call.header.operation ≡ Some operation → FreshCall caller call → Stays (handled_blocks station live caller call operation blocks)
     blocks_stays caller call operation None there is fresh = same
     blocks_stays caller call operation (Some blocks) there is fresh =
-        looked_stays caller call blocks operation (looked call.header.activity call.header.sequence live.rest.calls) (fresh blocks operation there is)
+        looked_stays caller call blocks operation
+        (looked_if (is_kept station.options operation) call.header.activity call.header.sequence live.rest.calls) (fresh blocks operation there is)
 
     call_stays : (caller : Caller) (call : Called) (operation : Option Operation) → operation_of call.header.operation ≡ operation → FreshCall caller call
         → Stays (handled_call station live caller call operation)

@@ -6,9 +6,8 @@ use Rattle.rpc_core.specs.declared.interface.Interface.{Interface}
 use Rattle.rpc_core.specs.Call.{Asked as Call, IsCall}
 use Rattle.rpc_core.specs.Fields.{turned}
 use Rattle.octets_law.specs.Octets.{activity_of, in_order, is_counted, number, part}
-use Rattle.octets_law.proofs.CallPlaces.{four_front, opened, skip, two_front}
+use Rattle.octets_law.proofs.CallPlaces.{four_front, opened, sixteen, skip, two_front}
 use Rattle.octets_law.proofs.CallReads.{call_parts, name_in, value_in}
-use Rattle.octets_law.proofs.SetFrames.{take_front}
 use Rattle.octets_law.proofs.SetReads.{one_octet}
 
 -- What names a call, and whether its counts are right.
@@ -23,9 +22,6 @@ at_front representation size octets = if representation / 16 == 1 then little_nu
 
 first_octet : (octets rest : List ℕ) → length octets ≡ 1 → big_number 1 (octets ++ rest) ≡ big_number 1 octets
 first_octet octets rest is = one_octet (λ l. big_number 1 (l ++ rest) ≡ big_number 1 l) octets is (λ a. refl)
-
-sixteen : (octets rest : List ℕ) → length octets ≡ 16 → take 16 (octets ++ rest) ≡ octets
-sixteen octets rest is = subst (λ n. take n (octets ++ rest) ≡ octets) is (take_front octets rest)
 
 inside_size : (word size maximum offset actual behind : List ℕ) → length word ≡ 4 → length size ≡ 4 → length maximum ≡ 4 → length offset ≡ 4 → length actual ≡ 4
     → length (word ++ (size ++ (maximum ++ (offset ++ (actual ++ behind))))) ≡ 20 + length behind

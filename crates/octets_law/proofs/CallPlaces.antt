@@ -5,7 +5,7 @@ use Rattle.byteorder.specs.Endian.{big_number, little_number}
 use Rattle.rpc_core.specs.declared.interface.Interface.{Interface}
 use Rattle.rpc_core.specs.Call.{Asked as Call, IsCall}
 use Rattle.rpc_core.specs.Fields.{turned}
-use Rattle.octets_law.specs.Octets.{args_of, in_order, name_of, number}
+use Rattle.octets_law.specs.Octets.{args_of, called, in_order, number}
 use Rattle.octets_law.proofs.CallReads.{IsBody, call_parts, name_in, value_in}
 use Rattle.octets_law.proofs.SetFrames.{take_front}
 use Rattle.octets_law.proofs.SetReads.{drop_past, one_octet, two_octets}
@@ -28,26 +28,11 @@ four_octets P (a ∷ b ∷ []) is for = absurd (omega arith)
 four_octets P (a ∷ []) is for = absurd (omega arith)
 four_octets P [] is for = absurd (omega arith)
 
-pub eight_front : (P : List ℕ → Type 0) (l : List ℕ) → length l ≡ 16 → ((a b c d e f g h : ℕ) (others : List ℕ) → length others ≡ 8 → P (a ∷ b ∷ c ∷ d ∷ e ∷ f ∷ g ∷ h ∷ others)) → P l
-eight_front P (a ∷ b ∷ c ∷ d ∷ e ∷ f ∷ g ∷ h ∷ others) is for = for a b c d e f g h others (omega arith)
-eight_front P (a ∷ b ∷ c ∷ d ∷ e ∷ f ∷ g ∷ []) is for = absurd (omega arith)
-eight_front P (a ∷ b ∷ c ∷ d ∷ e ∷ f ∷ []) is for = absurd (omega arith)
-eight_front P (a ∷ b ∷ c ∷ d ∷ e ∷ []) is for = absurd (omega arith)
-eight_front P (a ∷ b ∷ c ∷ d ∷ []) is for = absurd (omega arith)
-eight_front P (a ∷ b ∷ c ∷ []) is for = absurd (omega arith)
-eight_front P (a ∷ b ∷ []) is for = absurd (omega arith)
-eight_front P (a ∷ []) is for = absurd (omega arith)
-eight_front P [] is for = absurd (omega arith)
-
--- The name of a call, by its activity and its sequence number.
-abbrev pub name_for : List ℕ → ℕ → List ℕ
-name_for activity sequence = big_number 4 activity ∷ big_number 2 (drop 4 activity) ∷ big_number 2 (drop 6 activity) ∷ sequence ∷ take 8 (drop 8 activity)
-
 -- What is read of a call at fixed places.
 pub record IsCallRead (bytes : List ℕ) (meaning : Call) : Type 0 where
   pub kind : number 0 2 bytes ≡ 0x0400
   pub operation : in_order 68 2 bytes ≡ meaning.header.operation
-  pub name : name_of bytes ≡ name_for meaning.header.activity meaning.header.sequence
+  pub name : called bytes ≡ meaning.header.sequence ∷ meaning.header.activity
   pub blocks : (some : List ℕ) → meaning.blocks ≡ Some some → args_of bytes ≡ some
 
 -- A number of two octets, and one of four, before other octets.
@@ -61,47 +46,8 @@ pub four_front : (representation : ℕ) (octets rest : List ℕ) → length octe
 four_front representation octets rest is =
     four_octets (λ l. (if representation / 16 == 1 then little_number 4 (l ++ rest) else big_number 4 (l ++ rest)) ≡ value_in representation 4 l) octets is (λ a b c d. refl)
 
--- An identifier before other octets.
-abbrev named_at : ℕ → ℕ → List ℕ → List ℕ
-named_at representation sequence l =
-    (if representation / 16 == 1 then little_number 4 l else big_number 4 l)
-    ∷ (if representation / 16 == 1 then little_number 2 (drop 4 l) else big_number 2 (drop 4 l))
-    ∷ (if representation / 16 == 1 then little_number 2 (drop 6 l) else big_number 2 (drop 6 l)) ∷ sequence ∷ take 8 (drop 8 l)
-
-little_four : (a b c d : ℕ) (one other : List ℕ) → little_number 4 (a ∷ b ∷ c ∷ d ∷ one) ≡ big_number 4 (d ∷ c ∷ b ∷ a ∷ other)
-little_four a b c d one other = omega arith
-
-little_two : (a b : ℕ) (one other : List ℕ) → little_number 2 (a ∷ b ∷ one) ≡ big_number 2 (b ∷ a ∷ other)
-little_two a b one other = omega arith
-
-last_eight : (others rest : List ℕ) → length others ≡ 8 → take 8 (others ++ rest) ≡ take 8 others
-last_eight others rest is =
-    subst (λ n. take n (others ++ rest) ≡ take n others) is (take_front others rest ∙ sym (ap (take (length others)) (sym (append-nil others)) ∙ take_front others []))
-
-named_same : (w x y s : ℕ) (one other : List ℕ) (v : ℕ) (p q : ℕ) → w ≡ v → x ≡ p → y ≡ q → one ≡ other → w ∷ x ∷ y ∷ s ∷ one ≡ v ∷ p ∷ q ∷ s ∷ other
-named_same w x y s one other v p q a b c d = cc
-
-identifier_front : (representation sequence : ℕ) (octets rest : List ℕ) → length octets ≡ 16
-    → named_at representation sequence (octets ++ rest) ≡ name_for (name_in representation octets) sequence
-identifier_front representation sequence octets rest is =
-    eight_front (λ l. named_at representation sequence (l ++ rest) ≡ name_for (name_in representation l) sequence) octets is
-    (λ a b c d e f g h others eight. by_order (representation / 16 == 1) a b c d e f g h others eight)
-  where
-    by_order : (order : Bool) (a b c d e f g h : ℕ) (others : List ℕ) → length others ≡ 8
-        → (if order then little_number 4 (a ∷ b ∷ c ∷ d ∷ e ∷ f ∷ g ∷ h ∷ (others ++ rest)) else big_number 4 (a ∷ b ∷ c ∷ d ∷ e ∷ f ∷ g ∷ h ∷ (others ++ rest)))
-        ∷ (if order then little_number 2 (e ∷ f ∷ g ∷ h ∷ (others ++ rest)) else big_number 2 (e ∷ f ∷ g ∷ h ∷ (others ++ rest)))
-        ∷ (if order then little_number 2 (g ∷ h ∷ (others ++ rest)) else big_number 2 (g ∷ h ∷ (others ++ rest))) ∷ sequence ∷ take 8 (others ++ rest)
-        ≡ name_for (if order then turned (a ∷ b ∷ c ∷ d ∷ e ∷ f ∷ g ∷ h ∷ others) else (a ∷ b ∷ c ∷ d ∷ e ∷ f ∷ g ∷ h ∷ others)) sequence
-    by_order true a b c d e f g h others eight =
-        named_same _ _ _ sequence _ _ _ _ _ (little_four a b c d (e ∷ f ∷ g ∷ h ∷ (others ++ rest)) (f ∷ e ∷ h ∷ g ∷ others)) (little_two e f (g ∷ h ∷ (others ++ rest)) (h ∷ g ∷ others)) (little_two g h (others ++ rest) others) (last_eight others rest eight)
-    by_order false a b c d e f g h others eight = named_same _ _ _ sequence _ _ _ _ _ refl refl refl (last_eight others rest eight)
-
--- A name, from the places of its parts.
-abbrev named_by : ℕ → List ℕ → List ℕ → List ℕ → List ℕ → List ℕ → List ℕ
-named_by representation one two three sequence last =
-    (if representation / 16 == 1 then little_number 4 one else big_number 4 one) ∷ (if representation / 16 == 1 then little_number 2 two else big_number 2 two)
-    ∷ (if representation / 16 == 1 then little_number 2 three else big_number 2 three)
-    ∷ (if representation / 16 == 1 then little_number 4 sequence else big_number 4 sequence) ∷ take 8 last
+pub sixteen : (octets rest : List ℕ) → length octets ≡ 16 → take 16 (octets ++ rest) ≡ octets
+sixteen octets rest is = subst (λ n. take n (octets ++ rest) ≡ octets) is (take_front octets rest)
 
 pub opened : (a b c d e f rest : List ℕ) → (a ++ (b ++ (c ++ (d ++ (e ++ f))))) ++ rest ≡ a ++ (b ++ (c ++ (d ++ (e ++ (f ++ rest)))))
 opened a b c d e f rest = append_assoc a _ rest ∙ ap (λ l. a ++ l) (append_assoc b _ rest ∙ ap (λ l. b ++ l) (append_assoc c _ rest ∙ ap (λ l. c ++ l)
@@ -132,25 +78,21 @@ args_placed a b c d r e f g object interface activity boot sequence operation en
     ap (λ n. take n (drop 92 octets)) (ap (λ l. if (r * 1 + 0) / 16 == 1 then little_number 4 l else big_number 4 l) at_size ∙ four_front (r * 1 + 0) size _ u)
     ∙ ap (take (value_in (r * 1 + 0) 4 size)) at_behind ∙ take_within (value_in (r * 1 + 0) 4 size) behind rest few
 
--- The name of a call, or of an answer to one, by the fields of its header.
-pub name_placed : (a b c d r e f g : ℕ) (object interface activity boot sequence rest : List ℕ)
+-- The name of a call by the fields of its header.
+name_placed : (a b c d r e f g : ℕ) (object interface activity boot sequence rest : List ℕ)
     → length object ≡ 16 → length interface ≡ 16 → length activity ≡ 16 → length boot ≡ 8 → length sequence ≡ 4
-    → name_of (a ∷ b ∷ c ∷ d ∷ r ∷ e ∷ f ∷ g ∷ (object ++ (interface ++ (activity ++ (boot ++ (sequence ++ rest))))))
-    ≡ name_for (name_in (r * 1 + 0) activity) (value_in (r * 1 + 0) 4 sequence)
+    → called (a ∷ b ∷ c ∷ d ∷ r ∷ e ∷ f ∷ g ∷ (object ++ (interface ++ (activity ++ (boot ++ (sequence ++ rest))))))
+    ≡ value_in (r * 1 + 0) 4 sequence ∷ name_in (r * 1 + 0) activity
 name_placed a b c d r e f g object interface activity boot sequence rest l m n o p =
     let behind : List ℕ = boot ++ (sequence ++ rest) in
     let octets : List ℕ = object ++ (interface ++ (activity ++ behind)) in
-    let at_activity : (k : ℕ) → drop (16 + (16 + k)) (object ++ (interface ++ (activity ++ behind))) ≡ drop k (activity ++ behind) =
-    λ k. skip (16 + k) 16 object _ l ∙ skip k 16 interface _ m in
-    let at_sequence : drop 56 (object ++ (interface ++ (activity ++ behind))) ≡ sequence ++ rest =
+    let at_activity : drop 32 octets ≡ activity ++ behind = skip 16 16 object _ l ∙ skip 0 16 interface _ m in
+    let at_sequence : drop 56 octets ≡ sequence ++ rest =
     skip 40 16 object _ l ∙ skip 24 16 interface _ m ∙ skip 8 16 activity _ n ∙ skip 0 8 boot _ o in
-    ap (λ l. named_by (r * 1 + 0) l (drop 36 octets) (drop 38 octets) (drop 56 octets) (drop 40 octets)) (at_activity 0)
-    ∙ ap (λ l. named_by (r * 1 + 0) (activity ++ behind) l (drop 38 octets) (drop 56 octets) (drop 40 octets)) (at_activity 4)
-    ∙ ap (λ l. named_by (r * 1 + 0) (activity ++ behind) (drop 4 (activity ++ behind)) l (drop 56 octets) (drop 40 octets)) (at_activity 6)
-    ∙ ap (λ l. named_by (r * 1 + 0) (activity ++ behind) (drop 4 (activity ++ behind)) (drop 6 (activity ++ behind)) l (drop 40 octets)) at_sequence
-    ∙ ap (λ l. named_by (r * 1 + 0) (activity ++ behind) (drop 4 (activity ++ behind)) (drop 6 (activity ++ behind)) (sequence ++ rest) l) (at_activity 8)
-    ∙ ap (λ n. named_at (r * 1 + 0) n (activity ++ behind)) (four_front (r * 1 + 0) sequence rest p)
-    ∙ identifier_front (r * 1 + 0) (value_in (r * 1 + 0) 4 sequence) activity behind n
+    ap (λ l. value_in (r * 1 + 0) 4 l ∷ name_in (r * 1 + 0) (take 16 (drop 32 octets))) at_sequence
+    ∙ ap (λ l. value_in (r * 1 + 0) 4 (sequence ++ rest) ∷ name_in (r * 1 + 0) (take 16 l)) at_activity
+    ∙ ap (λ l. value_in (r * 1 + 0) 4 (sequence ++ rest) ∷ name_in (r * 1 + 0) l) (sixteen activity behind n)
+    ∙ ap (λ v. v ∷ name_in (r * 1 + 0) activity) (four_front (r * 1 + 0) sequence rest p)
 
 -- The fields of a call in front of other octets, read.
 placed : (meaning : Call) (a b c d r e f g : ℕ) (object interface activity boot sequence operation rest : List ℕ)
@@ -170,7 +112,7 @@ placed meaning a b c d r e f g object interface activity boot sequence operation
       operation = ap (λ l. if (r * 1 + 0) / 16 == 1 then little_number 2 l else big_number 2 l) at_operation ∙ two_front (r * 1 + 0) operation rest q ∙ sym operation_is;
       name =
           name_placed a b c d r e f g object interface activity boot sequence (operation ++ rest) l m n o p
-          ∙ ap (λ l. name_for l (value_in (r * 1 + 0) 4 sequence)) (sym activity_is) ∙ ap (λ n. name_for meaning.header.activity n) (sym sequence_is);
+          ∙ ap (λ l. value_in (r * 1 + 0) 4 sequence ∷ l) (sym activity_is) ∙ ap (λ n. n ∷ meaning.header.activity) (sym sequence_is);
     }
 
 -- A call is read at fixed places as it is.

@@ -15,7 +15,7 @@ use Rattle.frame_codec.specs.Meaning.{Content, Meaning, ArpPacket, RealTime, Udp
 use Rattle.frame_codec.proofs.Frames.{frame_takes}
 use Rattle.rpc_core.specs.declared.fault.RpcFault.{RpcFault}
 use Rattle.rpc_core.specs.declared.interface.Interface.TheVariants.{Device}
-use Rattle.rpc_core.specs.Cache.{again, looked}
+use Rattle.rpc_core.specs.Cache.{again}
 use Rattle.rpc_core.specs.Call.{Asked as Called, call_of}
 use Rattle.rpc_core.specs.Response.{Answered, response_of}
 use Rattle.rpc_core.proofs.Sound.{call_behind, call_takes, response_behind, response_takes}
@@ -24,11 +24,12 @@ use Rattle.device_frames.specs.declared.event.Event.{Event}
 use Rattle.device_frames.specs.declared.event.Event.TheVariants.{Frame, Call as Joined, Tick, Neighbour, Application}
 use Rattle.device_frames.specs.declared.note.Note.TheVariants as note
 use Rattle.device_frames.specs.Heard.{Calls, Elsewhere, Garbled, Resolves, broadcast, Reported, Responds, heard_content, heard_frame, heard_of, is_own, said_by, said_else, said_first}
-use Rattle.device_frames.specs.Sendable.{AreSendable}
 use Rattle.device_core.specs.State.{Live, Station}
+use Rattle.device_core.specs.Asking.{looked_if}
 use Rattle.device_core.specs.Handled.{Refuses, handled, is_running}
 use Rattle.device_core.specs.Machine.{step_of}
 use Rattle.octets_law.specs.Bridge.{repeats}
+use Rattle.octets_law.specs.Headline.{is_stored}
 use Rattle.octets_law.specs.Turns.{IsSmall}
 use Rattle.octets_law.specs.Octets.{Call as Calling, Nothing, asking_in, asking_of, calling, is_dcp, number, untagged}
 use Rattle.octets_law.proofs.Bare.{IsBare, bare_of}
@@ -36,7 +37,7 @@ use Rattle.octets_law.proofs.CallCounts.{IsCallCounted, call_counted}
 use Rattle.octets_law.proofs.CallPlaces.{IsCallRead, call_placed, skip}
 use Rattle.octets_law.proofs.CallSteps.{WritesAreBridged, call_step}
 use Rattle.octets_law.proofs.Datagrams.{IsArp, IsInternet, IsRealTime, Kind, body_behind, kind_under}
-use Rattle.octets_law.proofs.FrameSteps.{IsSaid, frame_timely, frame_to, is_to, nothing_said, other_said, real_step, silent_said}
+use Rattle.octets_law.proofs.FrameSteps.{CanStep, IsSaid, frame_timely, frame_to, is_to, nothing_said, other_said, real_step, silent_said}
 use Rattle.octets_law.proofs.Items.{IsStill, response_still}
 use Rattle.octets_law.proofs.Responses.{response_kind}
 use Rattle.octets_law.proofs.SetReads.{two_octets}
@@ -89,7 +90,7 @@ module _ (names : List (List ℕ)) (outcomes : List Outcome) (station : Station)
   -- A call that is answered again is named.
   abbrev pub IsNamed : Event → Type 0
   IsNamed event = (octets : List ℕ) (call : Called) (frame : List ℕ) → asking_of station.identity.mac event ≡ Calling octets → IsCallCounted octets call
-      → looked call.header.activity call.header.sequence live.rest.calls ≡ again frame → repeats (Calling octets) names ≡ true
+      → looked_if (is_stored station.options octets) call.header.activity call.header.sequence live.rest.calls ≡ again frame → repeats (Calling octets) names ≡ true
 
   -- Each Write that a call is is bridged.
   abbrev pub Writes : Event → Type 0
@@ -98,7 +99,7 @@ module _ (names : List (List ℕ)) (outcomes : List Outcome) (station : Station)
 
   -- What is said in these octets, with more after them.
   said_step : (event : Event) (body more : List ℕ) (caller : Caller) (address : List ℕ) → asking_of station.identity.mac event ≡ calling (body ++ more)
-      → heard_of station.identity event ≡ Reported caller address (said_by body) → AreSendable station.identity (step_of outcomes station live event).sent
+      → heard_of station.identity event ≡ Reported caller address (said_by body) → CanStep outcomes station live event
       → Writes event → IsNamed event → Goal event
   unfolding said_by
   said_step event body more caller address asks heard can writes named = by_call (call_of Device body) refl heard
@@ -124,13 +125,13 @@ module _ (names : List (List ℕ)) (outcomes : List Outcome) (station : Station)
           let spells = call_behind Device body more call (call_takes Device body call is) in
           let read = call_placed Device (body ++ more) call spells in
           let counted = call_counted Device (body ++ more) call spells in
-          call_step names outcomes station live event (body ++ more) asks caller address call read heard counted
+          call_step names outcomes station live event (body ++ more) asks caller address call read heard counted can
           (λ frame found. named (body ++ more) call frame (asks ∙ cond-true (number 0 2 (body ++ more) == 0x0400) _ _ (holds _ 0x0400 read.kind)) counted found)
           (writes (body ++ more) caller address call asks read heard)
 
   -- A frame that was read.
   module _ (event : Event) (bytes : List ℕ) (meaning : Meaning) (bare : IsBare bytes meaning) (asks : asking_of station.identity.mac event ≡ asking_in station.identity.mac (untagged bytes))
-      (can : AreSendable station.identity (step_of outcomes station live event).sent) (small : number 18 4 (untagged bytes) < 2 ^ 32) (writes : Writes event) (named : IsNamed event) where
+      (can : CanStep outcomes station live event) (small : number 18 4 (untagged bytes) < 2 ^ 32) (writes : Writes event) (named : IsNamed event) where
     own_is : is_to station.identity.mac (untagged bytes) ≡ is_own station.identity meaning.destination
     own_is = ap (λ l. pointwise nat_eq l station.identity.mac.octets) (frame_to bytes meaning bare)
 
@@ -167,7 +168,7 @@ module _ (names : List (List ℕ)) (outcomes : List Outcome) (station : Station)
 
   -- A frame, read or not.
   frame_step : (event : Event) (bytes : List ℕ) → asking_of station.identity.mac event ≡ asking_in station.identity.mac (untagged bytes)
-      → AreSendable station.identity (step_of outcomes station live event).sent → number 18 4 (untagged bytes) < 2 ^ 32 → Writes event → IsNamed event
+      → CanStep outcomes station live event → number 18 4 (untagged bytes) < 2 ^ 32 → Writes event → IsNamed event
       → (read : Result Meaning FrameFault) → frame_of bytes ≡ read → heard_of station.identity event ≡ heard_frame station.identity read → Goal event
   frame_step event bytes asks can small writes named (Err fault) is heard =
       silent_said names outcomes station live event note.Fault (ap (handled station live) heard)
@@ -175,7 +176,7 @@ module _ (names : List (List ℕ)) (outcomes : List Outcome) (station : Station)
       by_content event bytes meaning (bare_of bytes meaning (frame_takes bytes meaning is).spelled) asks can small writes named meaning.content refl heard
 
   -- What is said of the step of any event, if each Write is bridged.
-  pub event_step : (event : Event) → AreSendable station.identity (step_of outcomes station live event).sent → IsSmall event → Writes event → IsNamed event → Goal event
+  pub event_step : (event : Event) → CanStep outcomes station live event → IsSmall event → Writes event → IsNamed event → Goal event
   unfolding heard_of
   event_step (Frame frame) can small writes named = frame_step (Frame frame) frame.items refl can small writes named (frame_of frame.items) refl refl
   event_step (Joined caller address octets) can small writes named =
@@ -185,6 +186,6 @@ module _ (names : List (List ℕ)) (outcomes : List Outcome) (station : Station)
   event_step (Neighbour neighbour) can small writes named = other_said names outcomes station live (Neighbour neighbour) _ refl tt refl can
 
   -- The same, if what the device sends at it can be sent.
-  pub any_step : (event : Event) → AreSendable station.identity (step_of outcomes station live event).sent → IsSmall event → IsNamed event → Goal event
+  pub any_step : (event : Event) → CanStep outcomes station live event → IsSmall event → IsNamed event → Goal event
   any_step event can small named = event_step event can small (λ octets caller address call asks read heard.
-      writes_bridged names outcomes station live event octets asks caller address call read heard can) named
+      writes_bridged names outcomes station live event octets asks caller address call read heard can.0) named

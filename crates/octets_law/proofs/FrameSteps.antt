@@ -31,16 +31,18 @@ use Rattle.device_core.specs.Handled.{Refuses, Sets, handled, handled_request}
 use Rattle.device_core.specs.Machine.{handled_step, heard_step, step_of}
 use Rattle.octets_law.specs.Bridge.{Bridges}
 use Rattle.octets_law.specs.Octets.{Nothing, Set, asking_in, asking_of, commands_in, is_dcp, number, untagged}
+use Rattle.octets_law.proofs.Asked.{IsSuch}
 use Rattle.octets_law.proofs.Bare.{IsBare}
 use Rattle.octets_law.proofs.CallReads.{tested}
 use Rattle.octets_law.proofs.Datagrams.{IsArp, IsInternet, IsRealTime, Kind, kind_under}
 use Rattle.octets_law.proofs.Items.{IsOther, IsStill, identify_still, other_still}
+use Rattle.octets_law.proofs.Operations.{IsOfKind}
 use Rattle.octets_law.proofs.Later.{NoCall}
 use Rattle.octets_law.proofs.Quiet.{moved_bridged, refused_bridged}
 use Rattle.octets_law.proofs.SetFrames.{take_front}
 use Rattle.octets_law.proofs.SetHeard.{IsTimely, KindOf, set_read, timely}
 use Rattle.octets_law.proofs.SetSteps.{set_step}
-use Rattle.octets_law.proofs.Tracks.{Tracks, nothing_tracked, refused_tracked, set_tracked}
+use Rattle.octets_law.proofs.Tracks.{IsUncalled, Tracks, refused_tracked, uncalled_tracked}
 
 -- ---- what is heard, and its step
 
@@ -58,27 +60,31 @@ unfolding heard_step
 still_bridged mac names outcomes station live event still nothing =
     moved_bridged mac names event outcomes station live (handled station live (heard_of station.identity event)) still nothing
 
+-- What is sent at a step can be sent, and the call that the application is asked before it has the operation of its request.
+abbrev pub CanStep : List Outcome → Station → Live → Event → Type 0
+CanStep outcomes station live event = AreSendable station.identity (step_of outcomes station live event).sent × IsSuch IsOfKind live.rest.asked
+
 -- What is said of a step.
 abbrev pub IsSaid : List (List ℕ) → List Outcome → Station → Live → Event → Type 0
 IsSaid names outcomes station live event =
-    Bridges station.identity.mac names event live.values (step_of outcomes station live event) × Tracks station.identity.mac event live (step_of outcomes station live event)
+    Bridges station.identity.mac names event live.values (step_of outcomes station live event) × Tracks station.options station.identity.mac event live (step_of outcomes station live event)
 
 pub silent_said : (names : List (List ℕ)) (outcomes : List Outcome) (station : Station) (live : Live) (event : Event) (why : Note)
     → handled station live (heard_of station.identity event) ≡ Refuses why → IsSaid names outcomes station live event
 unfolding heard_step
 silent_said names outcomes station live event why is = (
   silent_bridged station.identity.mac names outcomes station live event why is,
-  subst (λ what. Tracks station.identity.mac event live (handled_step outcomes station live what)) (sym is) (refused_tracked station.identity.mac event outcomes station live why),
+  subst (λ what. Tracks station.options station.identity.mac event live (handled_step outcomes station live what)) (sym is) (refused_tracked station.identity.mac event outcomes station live why),
 )
 
 -- What is heard asks nothing of the settings and is no call, and the octets ask for nothing.
 pub nothing_said : (names : List (List ℕ)) (outcomes : List Outcome) (station : Station) (live : Live) (event : Event) (heard : Heard) → heard_of station.identity event ≡ heard
     → IsStill (handled station live heard) → NoCall heard → asking_of station.identity.mac event ≡ Nothing
-    → AreSendable station.identity (step_of outcomes station live event).sent
+    → CanStep outcomes station live event
     → IsSaid names outcomes station live event
 nothing_said names outcomes station live event heard is stays none nothing can = (
   still_bridged station.identity.mac names outcomes station live event (subst (λ h. IsStill (handled station live h)) (sym is) stays) (ap commands_in nothing),
-  nothing_tracked station.identity.mac outcomes station live event (subst NoCall (sym is) none) nothing can,
+  uncalled_tracked station.identity.mac outcomes station live event can.1 (subst NoCall (sym is) none) (subst IsUncalled (sym nothing) tt) can.0,
 )
 
 pub other_no_call : (station : Station) (live : Live) (heard : Heard) → IsOther station live heard → NoCall heard
@@ -97,7 +103,7 @@ other_no_call station live Elsewhere other = tt
 
 -- The same of what is neither a DCP request nor in a datagram.
 pub other_said : (names : List (List ℕ)) (outcomes : List Outcome) (station : Station) (live : Live) (event : Event) (heard : Heard) → heard_of station.identity event ≡ heard
-    → IsOther station live heard → asking_of station.identity.mac event ≡ Nothing → AreSendable station.identity (step_of outcomes station live event).sent
+    → IsOther station live heard → asking_of station.identity.mac event ≡ Nothing → CanStep outcomes station live event
     → IsSaid names outcomes station live event
 other_said names outcomes station live event heard is other nothing can =
     nothing_said names outcomes station live event heard is (other_still station live heard other) (other_no_call station live heard other) nothing can
@@ -177,7 +183,7 @@ or_false false is = absurd cc
 
 module _ (names : List (List ℕ)) (outcomes : List Outcome) (station : Station) (live : Live) (bytes : List ℕ) (event : Event)
     (asks : asking_of station.identity.mac event ≡ asking_in station.identity.mac (untagged bytes))
-    (can : AreSendable station.identity (step_of outcomes station live event).sent)
+    (can : CanStep outcomes station live event)
     (destination source : Mac) (id : ℕ) (body : List ℕ) (front : take 6 (untagged bytes) ≡ destination.octets) (it : IsTimely (untagged bytes) id body)
     (small : number 18 4 (untagged bytes) < 2 ^ 32) where
   abbrev Goal : Type 0
@@ -199,14 +205,7 @@ module _ (names : List (List ℕ)) (outcomes : List Outcome) (station : Station)
 
   handled_can : AreSendable station.identity (handled_step outcomes station live (handled station live (heard_of station.identity event))).sent
   unfolding heard_step
-  handled_can = can
-
-  set_said : (request : Asked) → handled station live (heard_of station.identity event) ≡ Sets source request (is_some live.rest.link)
-      → asking_of station.identity.mac event ≡ Set (untagged bytes) → Tracks station.identity.mac event live (step_of outcomes station live event)
-  unfolding heard_step
-  set_said request what set =
-      subst (λ what. Tracks station.identity.mac event live (handled_step outcomes station live what)) (sym what)
-      (set_tracked station.identity.mac outcomes station live event (untagged bytes) source request (is_some live.rest.link) set)
+  handled_can = can.0
 
   -- A request of DCP that was read.
   request_step : (request : Asked) → heard_of station.identity event ≡ Asks source request → is_taken station.identity destination id ≡ true → IsRequest id body request → Goal
@@ -231,7 +230,7 @@ module _ (names : List (List ℕ)) (outcomes : List Outcome) (station : Station)
             set_step station.identity.mac names outcomes station live event source request (is_some live.rest.link) (untagged bytes) (outcome service.Set is)
                 set kind.1 (subst (λ n. n < 2 ^ 32) kind.1.xid small)
                 (subst (λ what. AreSendable station.identity (handled_step outcomes station live what).sent) (outcome service.Set is) handled_can),
-            set_said request (outcome service.Set is) set,
+            uncalled_tracked station.identity.mac outcomes station live event can.1 (subst NoCall (sym heard) tt) (subst IsUncalled (sym set) tt) can.0,
           )
 
   -- A frame of real time.

@@ -30,7 +30,7 @@ use Rattle.relations.specs.Phases.{updated}
 use Rattle.relations.specs.Diagnosed.{has_sent_low, heard_low, hearing_low}
 use Rattle.arrayvec.specs.ArrayVec.{ArrayVec}
 use Rattle.asked_records.specs.Answers.{Gives, judged}
-use Rattle.asked_records.specs.Asked.{AskedState, asks, is_repeat}
+use Rattle.asked_records.specs.Asked.{AskedState, asks, behind_displaced, displaced_by, is_repeat}
 use Rattle.asked_records.specs.declared.answering.AnswerFault.{AnswerFault}
 use Rattle.asked_records.specs.declared.question.Question.{Question}
 use Rattle.device_frames.specs.declared.local.Local.{Local}
@@ -66,14 +66,17 @@ module _ (station : Station) (live : Live) where
   control_still caller call blocks = cond_both (is_plug_control blocks live.rest.link) _ _ IsStill (λ _. refl) (λ _. refl)
 
   -- A call for a record of the application, and one that the device answers by itself.
-  pub question_still : (question : Question) (asked : Option AskedState) → IsStill (handled_question station live question asked)
-  question_still question (Some asked) = refl
-  question_still question None = refl
+  pub question_still : (question : Question) (displaced : Option Question) (asked : Option AskedState)
+      → IsStill (handled_question station live question displaced asked)
+  question_still question displaced (Some asked) = refl
+  question_still question displaced None = refl
 
   asking_still : (caller : Caller) (call : Called) (blocks : List ℕ) (operation : Operation) (asking : Result (Option Asking) CallFault)
       → IsStill (handled_own station live caller call blocks operation) → IsStill (handled_asking station live caller call blocks operation asking)
   asking_still caller call blocks operation (Ok None) own = own
-  asking_still caller call blocks operation (Ok (Some asking)) own = question_still asking.0 (asks asking.0 asking.1 live.rest.asked)
+  asking_still caller call blocks operation (Ok (Some asking)) own =
+      let displaced = displaced_by station.options.asks_own_first asking.0 live.rest.asked in
+      question_still asking.0 displaced (asks asking.0 asking.1 (behind_displaced displaced live.rest.asked))
   asking_still caller call blocks operation (Err why) own = refl
 
   -- A call that was not answered, if the device's own answer to it asks for nothing.

@@ -1,9 +1,10 @@
--- What a device keeps after a step that hears no call: its answers are those that the responses among its frames say.
-use Rattle.std.proofs.Common.{◌≡◌, ◌==◌, ◌&&◌, ◌++◌, ℕ, Bool, true, false, List, [], ◌∷◌, length, map, drop, take, None, Some, is_some, Option, Result, Ok, Err, refl, sym, ap, ◌∙◌, if◌then◌else◌}
+-- What a device keeps after a step: its answers are those that the responses among its frames say. Of a call this is so if it is handled as new.
+use Rattle.std.proofs.Common.{◌≡◌, ◌==◌, ◌&&◌, ◌++◌, ℕ, Bool, true, false, not, List, [], ◌∷◌, length, map, drop, take, None, Some, is_some, Option, Result, Ok, Err, refl, sym, ap, ◌∙◌, if◌then◌else◌}
 use Rattle.std.specs.List.{AllByRecursion}
-use Rattle.std.proofs.lemmas.Bool.{cond-true, cond_both}
+use Rattle.std.proofs.lemmas.Bool.{cond_both}
 use Rattle.arrayvec.specs.ArrayVec.{ArrayVec}
 use Rattle.pn_values.specs.declared.mac.Mac.{Mac}
+use Rattle.pn_values.specs.IpSuite.{is_zero}
 use Rattle.pn_values.specs.declared.identity.Identity.{Identity}
 use Rattle.pn_values.specs.declared.set_item.BlockError.{BlockError}
 use Rattle.frame_codec.specs.declared.arp.Arp.{Arp}
@@ -25,11 +26,11 @@ use Rattle.dcp_core.specs.Request.{Asked}
 use Rattle.dcp_core.specs.Set.{plan_of, set_bytes}
 use Rattle.rpc_core.specs.declared.interface.Interface.TheVariants.{Controller}
 use Rattle.rpc_core.specs.declared.response.Status.{Status}
-use Rattle.rpc_core.specs.Cache.{Kept, Reported as Looked, again, behind_reported, kept_more, looked, new, old}
+use Rattle.rpc_core.specs.Cache.{Kept, Reported as Looked, again, behind_reported, looked, new, old}
 use Rattle.rpc_core.specs.Call.{Asked as Called, call, call_bytes}
 use Rattle.rpc_core.specs.Header.{head, opening}
 use Rattle.rpc_core.specs.Pdu.{cut_off, pdu}
-use Rattle.rpc_core.specs.Response.{Answered}
+use Rattle.rpc_core.specs.Response.{Answered, answer_to}
 use Rattle.pn_alarms.specs.declared.device.PduFate.{PduFate}
 use Rattle.pn_alarms.specs.declared.device.PduFate.TheVariants as fate
 use Rattle.pn_alarms.specs.declared.pdu.Header.{Header}
@@ -37,10 +38,25 @@ use Rattle.pn_alarms.specs.declared.pdu.PduType.TheVariants.{Error}
 use Rattle.pn_alarms.specs.declared.receiver.Taken.{Taken}
 use Rattle.pn_alarms.specs.Format.{frame_id_of, pdu_bytes}
 use Rattle.pn_alarms.specs.Message.{ToDevice}
-use Rattle.asked_records.specs.Asked.{settled}
+use Rattle.asked_records.specs.Asked.{AskedState, asks as asks_now, behind_displaced, displaced_by, is_over, is_repeat}
 use Rattle.asked_records.specs.Answers.{Gives, answer_blocks, answer_status, judged}
 use Rattle.asked_records.specs.declared.answering.AnswerFault.{AnswerFault}
+use Rattle.asked_records.specs.Questions.{operation_of as operation_asked}
 use Rattle.asked_records.specs.declared.question.Question.{Question}
+use Rattle.asked_records.specs.declared.status.Unanswered.{Unanswered}
+use Rattle.asked_records.specs.declared.status.Unanswered.TheVariants.{Busy, Late}
+use Rattle.record_blocks.specs.declared.write_record.IodWriteReq.{IodWriteReq}
+use Rattle.records.specs.declared.status.call_fault.CallFault.{CallFault}
+use Rattle.records.specs.declared.status.operation.Operation.{Operation}
+use Rattle.records.specs.declared.status.operation.Operation.TheVariants.{Connect, Control, Read, ReadImplicit, Release, Write}
+use Rattle.records.specs.declared.writes.write.Effect.{Effect}
+use Rattle.records.specs.declared.writes.write.Effect.TheVariants.{Keeps, Stores}
+use Rattle.records.specs.declared.writes.writing.Writing.{Writing}
+use Rattle.records.specs.declared.writes.writing.Writing.TheVariants.{Each, One}
+use Rattle.records.specs.status.Operation.{operation_of}
+use Rattle.records.specs.writes.Asked.{writing_of}
+use Rattle.relations.specs.declared.options.DeviceOptions.{DeviceOptions}
+use Rattle.relations.specs.Calls.{prm_end_of}
 use Rattle.relations.specs.declared.farewell.Farewell.{Farewell}
 use Rattle.relations.specs.Farewells.{said_by}
 use Rattle.relations.specs.declared.hearing.ReadyAnswer.{ReadyAnswer}
@@ -53,9 +69,9 @@ use Rattle.relations.specs.exchange.Frames.{Frame, alarm_frame, body_of, id_of, 
 use Rattle.relations.specs.Diagnosed.{begin_one, beginning, has_sent_low, heard_low, hearing_low, report_one, reporting}
 use Rattle.relations.specs.Exchanged.{heard_by, hearing, received_by, receiving}
 use Rattle.relations.specs.Phases.{passing, updated}
-use Rattle.relations.specs.Plugging.{calling_next, is_calling, plug_answer_in, plug_answering, plug_ready_of}
+use Rattle.relations.specs.Plugging.{calling_next, is_calling, is_plug_control, plug_answer_in, plug_answering, plug_end_in, plug_ready_of}
 use Rattle.relations.specs.Ready.{answer_of as ready_answer, handled_by}
-use Rattle.relations.specs.RelationState.{RelationState, flow_of, is_alarm_of, is_in_exchange}
+use Rattle.relations.specs.RelationState.{RelationState, flow_of, is_alarm_of, is_in_exchange, uuid_of}
 use Rattle.relations.specs.Timers.{Due, due_of}
 use Rattle.settings_journal.specs.settings_store.Machine.{Outcome, carried}
 use Rattle.device_frames.specs.declared.local.Local.{Local}
@@ -63,17 +79,19 @@ use Rattle.device_frames.specs.Heard.{Heard, Ticks, Unreadable, Elsewhere, Asks,
 use Rattle.device_frames.specs.Relation.{alarms_of, due_frames, farewells_in, frames_in, inputs_of, low_alarms_of, low_replies_of, plug_call_in, plug_calls, ready_calls, replies_of, where_due}
 use Rattle.device_frames.specs.Sendable.{AreSendable, IsSendable}
 use Rattle.device_frames.specs.Sent.{Sent, IdentifyAnswer, GetAnswer, SetAnswer, ArpReply, CallAnswer, Again, ReadyCall, PlugReadyCall, Ends, Exchanges, bytes_of}
-use Rattle.device_core.specs.Asking.{answered_link, is_new, kept_reply, late_calls, late_in, late_sent, question_replies, reply_to}
-use Rattle.device_core.specs.Handled.{Handled, counted_sent, handled, handled_alarm, handled_answer, handled_judged, handled_local, handled_low, handled_low_pdu, handled_pdu, handled_plug_answer, handled_received, handled_request, handled_response, is_request, is_running, replied, ticked, unit_rest, unit_sent}
+use Rattle.device_core.specs.Asking.{Asking, asking_of, calls_after, ended_by, is_full, is_kept, is_new, kept_if, kept_reply, late_in, later_calls, later_replies, question_replies, refused_calls, refused_sent, reply_to}
+use Rattle.device_core.specs.Handled.{Handled, counted_sent, handled, handled_alarm, handled_answer, handled_asking, handled_effect, handled_judged, handled_local, handled_low, handled_low_pdu, handled_own, handled_pdu, handled_plug_answer, handled_question, handled_received, handled_request, handled_response, handled_unanswered, handled_write, is_request, is_running, kept_for, ready_behind, ticked, unit_rest, unit_sent}
 use Rattle.device_core.specs.Local.{IsOfRelation}
 use Rattle.device_core.specs.Machine.{farewell_at, finished, handled_step, heard_step, items_in, resets}
-use Rattle.device_core.specs.Modules.{next_call_sent}
+use Rattle.device_core.specs.Modules.{call_after, next_call_sent}
 use Rattle.device_core.specs.State.{Live, Rest, Station, alias_in, counter_of, units_after}
 use Rattle.octets_law.proofs.Locals.{by_local}
-use Rattle.octets_law.specs.Headline.{Stored, is_response, stored_later, with_answer, without}
-use Rattle.octets_law.specs.Octets.{in_order, number}
+use Rattle.octets_law.specs.Headline.{Stored, is_stored, stored_later, with_answer, without}
+use Rattle.octets_law.specs.Octets.{activity_of, is_response, number}
+use Rattle.octets_law.proofs.Asked.{IsSuch, judged_goes, left_such}
+use Rattle.octets_law.proofs.Operations.{IsOfKind, asking_kind, displaced_is, kept_is}
 use Rattle.octets_law.proofs.AnswerPlaces.{answer_found, datagram_read}
-use Rattle.octets_law.proofs.Repeats.{kept_view, view}
+use Rattle.octets_law.proofs.Repeats.{kept_if_view, view}
 use Rattle.octets_law.proofs.SetFrames.{plain_octets, six}
 use Rattle.octets_law.proofs.SetSteps.{tagged_octets}
 
@@ -149,56 +167,115 @@ no_response identity (Exchanges route frame) can none = tagged_no identity.mac r
 
 -- ---- what is stored after them
 
--- Frames that are no response, before others.
-none_then : (identity : Identity) (sent behind : List Sent) (stored : List Stored) → AreSendable identity (sent ++ behind) → AllByRecursion IsNoResponse sent
-    → stored_later (map (bytes_of identity) (sent ++ behind)) stored ≡ stored_later (map (bytes_of identity) behind) stored
-none_then identity [] behind stored can none = refl
-none_then identity (message ∷ sent) behind stored can none =
-    ap (λ b. stored_later (map (bytes_of identity) (sent ++ behind))
-    (if b then with_answer (drop 42 (bytes_of identity message)) (bytes_of identity message) stored else stored))
-    (no_response identity message can.0 none.0) ∙ none_then identity sent behind stored can.1 none.1
+none_if : (options : DeviceOptions) (frame : List ℕ) (stored : List Stored) → is_response frame ≡ false
+    → (if is_response frame && is_stored options (drop 42 frame) then with_answer (drop 42 frame) frame stored else stored) ≡ stored
+none_if options frame stored none = ap (λ b. if b && is_stored options (drop 42 frame) then with_answer (drop 42 frame) frame stored else stored) none
 
-none_later : (identity : Identity) (sent : List Sent) (stored : List Stored) → AreSendable identity sent → AllByRecursion IsNoResponse sent
-    → stored_later (map (bytes_of identity) sent) stored ≡ stored
-none_later identity [] stored can none = refl
-none_later identity (message ∷ sent) stored can none =
-    ap (λ b. stored_later (map (bytes_of identity) sent)
-    (if b then with_answer (drop 42 (bytes_of identity message)) (bytes_of identity message) stored else stored))
-    (no_response identity message can.0 none.0) ∙ none_later identity sent stored can.1 none.1
+-- Frames that are no response, before others.
+none_then : (options : DeviceOptions) (identity : Identity) (sent behind : List Sent) (stored : List Stored) → AreSendable identity (sent ++ behind)
+    → AllByRecursion IsNoResponse sent
+    → stored_later options (map (bytes_of identity) (sent ++ behind)) stored ≡ stored_later options (map (bytes_of identity) behind) stored
+none_then options identity [] behind stored can none = refl
+none_then options identity (message ∷ sent) behind stored can none =
+    ap (stored_later options (map (bytes_of identity) (sent ++ behind)))
+    (none_if options (bytes_of identity message) stored (no_response identity message can.0 none.0))
+    ∙ none_then options identity sent behind stored can.1 none.1
+
+none_later : (options : DeviceOptions) (identity : Identity) (sent : List Sent) (stored : List Stored) → AreSendable identity sent
+    → AllByRecursion IsNoResponse sent → stored_later options (map (bytes_of identity) sent) stored ≡ stored
+none_later options identity [] stored can none = refl
+none_later options identity (message ∷ sent) stored can none =
+    ap (stored_later options (map (bytes_of identity) sent)) (none_if options (bytes_of identity message) stored (no_response identity message can.0 none.0))
+    ∙ none_later options identity sent stored can.1 none.1
 
 behind_can : (identity : Identity) (sent behind : List Sent) → AreSendable identity (sent ++ behind) → AreSendable identity behind
 behind_can identity [] behind can = can
 behind_can identity (message ∷ sent) behind can = behind_can identity sent behind can.1
 
--- The response to a call.
-answer_later : (identity : Identity) (caller : Caller) (address : List ℕ) (answer : Answered) (calls : List Kept)
-    → IsSendable identity (CallAnswer caller address answer)
-    → stored_later (bytes_of identity (CallAnswer caller address answer) ∷ []) (view calls)
-    ≡ view (kept_more 4 (record {
+-- The response to a call, and frames after it that are none.
+answer_later : (options : DeviceOptions) (identity : Identity) (caller : Caller) (address : List ℕ) (answer : Answered) (behind : List Sent) (calls : List Kept)
+    (which : Operation) → operation_of answer.header.operation ≡ Some which → AreSendable identity (CallAnswer caller address answer ∷ behind)
+    → AllByRecursion IsNoResponse behind
+    → stored_later options (map (bytes_of identity) (CallAnswer caller address answer ∷ behind)) (view calls)
+    ≡ view (kept_if (is_kept options which) (record {
       activity = answer.header.activity;
       sequence = answer.header.sequence;
       frame = bytes_of identity
           (CallAnswer caller address answer);
     }) calls)
-answer_later identity caller address answer calls can =
+answer_later options identity caller address answer behind calls which is can none =
     let frame : List ℕ = bytes_of identity (CallAnswer caller address answer) in
-    let it = answer_found identity caller address answer can in
-    cond-true (is_response frame) _ _ it.is
-    ∙ ap (λ l. with_stored (in_order 64 4 (drop 42 frame)) l frame (view calls)) it.activity
-    ∙ ap (λ n. with_stored n answer.header.activity frame (view calls)) it.sequence
-    ∙ kept_view answer.header.activity frame answer.header.sequence calls
-  where
-    with_stored : ℕ → List ℕ → List ℕ → List Stored → List Stored
-    with_stored sequence activity frame stored = (sequence ∷ activity, frame) ∷ take 3 (without activity stored)
+    let it = answer_found identity caller address answer can.0 in
+    let stored : is_stored options (drop 42 frame) ≡ is_kept options which =
+    ap (λ n. not (options.reads_not_kept && n == 5)) it.operation ∙ kept_is options answer.header.operation which is in
+    let kept : Bool = is_kept options which in
+    ap (stored_later options (map (bytes_of identity) behind))
+    (ap (λ b. if b && is_stored options (drop 42 frame) then with_answer (drop 42 frame) frame (view calls) else view calls) it.is
+    ∙ ap (λ b. if b then with_answer (drop 42 frame) frame (view calls) else view calls) stored
+    ∙ ap (λ l. if kept then (l, frame) ∷ take 3 (without (activity_of (drop 42 frame)) (view calls)) else view calls) it.name
+    ∙ ap (λ l. if kept then (answer.header.sequence ∷ answer.header.activity, frame) ∷ take 3 (without l (view calls)) else view calls) it.activity
+    ∙ kept_if_view kept answer.header.activity frame answer.header.sequence calls)
+    ∙ none_later options identity behind _ can.1 none
 
 -- The response to a call that was asked, unless a later call of its activity was answered.
-reply_later : (identity : Identity) (address : List ℕ) (question : Question) (status : Status) (blocks : List ℕ) (calls : List Kept) (found : Looked)
-    → AreSendable identity (where_due (is_new found) (reply_to address question status blocks ∷ []))
-    → stored_later (map (bytes_of identity) (where_due (is_new found) (reply_to address question status blocks ∷ []))) (view calls)
-    ≡ view (behind_reported 4 (kept_reply identity question (reply_to address question status blocks)) calls found)
-reply_later identity address question status blocks calls new can = answer_later identity question.caller address _ calls can.0
-reply_later identity address question status blocks calls (again frame) can = refl
-reply_later identity address question status blocks calls old can = refl
+reply_later : (options : DeviceOptions) (identity : Identity) (address : List ℕ) (question : Question) (status : Status) (blocks : List ℕ) (calls : List Kept)
+    → IsOfKind question
+    → AreSendable identity (question_replies (is_kept options (operation_asked question.request)) question (reply_to address question status blocks) calls)
+    → stored_later options (map (bytes_of identity)
+    (question_replies (is_kept options (operation_asked question.request)) question (reply_to address question status blocks) calls)) (view calls)
+    ≡ view (calls_after (is_kept options (operation_asked question.request)) identity question (reply_to address question status blocks) calls)
+reply_later options identity address question status blocks calls kind = by_kept (is_kept options (operation_asked question.request)) refl
+  where
+    answer : Sent
+    answer = reply_to address question status blocks
+
+    said : AreSendable identity (answer ∷ []) → stored_later options (bytes_of identity answer ∷ []) (view calls)
+        ≡ view (kept_if (is_kept options (operation_asked question.request)) (kept_reply identity question answer) calls)
+    said can = answer_later options identity question.caller address _ [] calls (operation_asked question.request) kind can tt
+
+    by_found : (found : Looked) → is_kept options (operation_asked question.request) ≡ true
+        → AreSendable identity (where_due (is_new found) (answer ∷ []))
+        → stored_later options (map (bytes_of identity) (where_due (is_new found) (answer ∷ []))) (view calls)
+        ≡ view (behind_reported 4 (kept_reply identity question answer) calls found)
+    by_found new is can = said can ∙ ap (λ b. view (kept_if b (kept_reply identity question answer) calls)) is
+    by_found (again frame) is can = refl
+    by_found old is can = refl
+
+    by_kept : (kept : Bool) → is_kept options (operation_asked question.request) ≡ kept → AreSendable identity (question_replies kept question answer calls)
+        → stored_later options (map (bytes_of identity) (question_replies kept question answer calls)) (view calls)
+        ≡ view (calls_after kept identity question answer calls)
+    by_kept true is can = by_found (looked question.header.activity question.header.sequence calls) is can
+    by_kept false is can = said can ∙ ap (λ b. view (kept_if b (kept_reply identity question answer) calls)) is
+
+-- It is dropped if there is no address.
+later_later : (options : DeviceOptions) (identity : Identity) (address : List ℕ) (question : Question) (status : Status) (blocks : List ℕ) (calls : List Kept)
+    → IsOfKind question
+    → AreSendable identity (later_replies (is_kept options (operation_asked question.request)) address question (reply_to address question status blocks) calls)
+    → stored_later options (map (bytes_of identity)
+    (later_replies (is_kept options (operation_asked question.request)) address question (reply_to address question status blocks) calls)) (view calls)
+    ≡ view (later_calls (is_kept options (operation_asked question.request)) identity address question (reply_to address question status blocks) calls)
+later_later options identity address question status blocks calls kind = by_address (is_zero address)
+  where
+    kept : Bool
+    kept = is_kept options (operation_asked question.request)
+
+    answer : Sent
+    answer = reply_to address question status blocks
+
+    by_address : (none : Bool) → AreSendable identity (if none then [] else question_replies kept question answer calls)
+        → stored_later options (map (bytes_of identity) (if none then [] else question_replies kept question answer calls)) (view calls)
+        ≡ view (if none then calls else calls_after kept identity question answer calls)
+    by_address true can = refl
+    by_address false can = reply_later options identity address question status blocks calls kind can
+
+-- The busy answer to a call that is asked no longer.
+refused_later : (options : DeviceOptions) (identity : Identity) (address : List ℕ) (reason : Unanswered) (refused : Option Question) (calls : List Kept)
+    → ((question : Question) → refused ≡ Some question → IsOfKind question) → AreSendable identity (refused_sent options address reason refused calls)
+    → stored_later options (map (bytes_of identity) (refused_sent options address reason refused calls)) (view calls)
+    ≡ view (refused_calls options identity address reason refused calls)
+refused_later options identity address reason None calls kind can = refl
+refused_later options identity address reason (Some question) calls kind can =
+    later_later options identity address question _ [] calls (kind question refl) can
 
 -- ---- what is sent of a relation
 
@@ -283,31 +360,108 @@ all_relation_none (message ∷ sent) all = (relation_none message all.0, all_rel
 
 -- ---- outcomes
 
+by_result : {A B : Type 0} (P : Result A B → Type 0) → ((a : A) → P (Ok a)) → ((b : B) → P (Err b)) → (r : Result A B) → P r
+by_result P ok err (Ok a) = ok a
+by_result P ok err (Err b) = err b
+
 -- What is heard is no call.
 abbrev pub NoCall : Heard → Type 0
 NoCall (Reported caller address (Calls call)) = ⊥
 NoCall heard = Unit {0}
 
-module _ (station : Station) (live : Live) where
+module _ (station : Station) (live : Live) (kinds : IsSuch IsOfKind live.rest.asked) where
   -- What is stored after an outcome is what the responses among its frames say.
   abbrev pub IsLater : Handled → Type 0
   IsLater what = (answers : List BlockError) → AreSendable station.identity (finished station.identity live.rest what answers).sent
-      → stored_later (map (bytes_of station.identity) (finished station.identity live.rest what answers).sent) (view live.rest.calls)
+      → stored_later station.options (map (bytes_of station.identity) (finished station.identity live.rest what answers).sent) (view live.rest.calls)
       ≡ view (finished station.identity live.rest what answers).rest.calls
 
   -- Messages that are no response.
   quiet : (sent : List Sent) → AreNone sent → AreSendable station.identity sent
-      → stored_later (map (bytes_of station.identity) sent) (view live.rest.calls) ≡ view live.rest.calls
-  quiet sent none can = none_later station.identity sent (view live.rest.calls) can none
+      → stored_later station.options (map (bytes_of station.identity) sent) (view live.rest.calls) ≡ view live.rest.calls
+  quiet sent none can = none_later station.options station.identity sent (view live.rest.calls) can none
 
-  -- The response to a call that was asked.
-  replied_later : (rest : Rest) (question : Question) (status : Status) (blocks : List ℕ) → rest.calls ≡ live.rest.calls
-      → IsLater (replied station live rest question status blocks)
-  replied_later rest question status blocks same answers can =
-      ap (λ calls. stored_later (map (bytes_of station.identity)
-      (question_replies question (reply_to live.values.running.suite.address question status blocks) rest.calls)) (view calls)) (sym same)
-      ∙ reply_later station.identity live.values.running.suite.address question status blocks rest.calls
-      (looked question.header.activity question.header.sequence rest.calls) can
+  -- ---- calls
+
+  -- The device's own answer to a call, and what is sent after it.
+  module _ (caller : Caller) (call : Called) where
+    told_later : (which : Operation) (status : Status) (blocks : List ℕ) (behind : List Sent) → operation_of call.header.operation ≡ Some which
+        → AreNone behind → (answers : List BlockError)
+        → AreSendable station.identity (CallAnswer caller live.values.running.suite.address (answer_to call status blocks) ∷ behind)
+        → stored_later station.options
+        (map (bytes_of station.identity) (CallAnswer caller live.values.running.suite.address (answer_to call status blocks) ∷ behind)) (view live.rest.calls)
+        ≡ view (kept_if (is_kept station.options which)
+        (kept_for station.identity call (CallAnswer caller live.values.running.suite.address (answer_to call status blocks))) live.rest.calls)
+    told_later which status blocks behind is none answers can =
+        answer_later station.options station.identity caller live.values.running.suite.address (answer_to call status blocks) behind live.rest.calls which is can
+        none
+
+    effect_later : (header : IodWriteReq) (effect : Effect) → operation_of call.header.operation ≡ Some Write
+        → IsLater (handled_effect station live caller call header effect)
+    effect_later header (Stores value) is = λ answers can.
+        answer_later station.options station.identity caller live.values.running.suite.address _ [] live.rest.calls Write is can tt
+    effect_later header (Keeps parameter) is = told_later Write _ _ [] is tt
+
+    write_later : (writing : Result Writing CallFault) → operation_of call.header.operation ≡ Some Write
+        → IsLater (handled_write station live caller call writing)
+    write_later (Ok (One write)) is = effect_later write.request write.effect is
+    write_later (Ok (Each header entries)) is = λ answers can.
+        answer_later station.options station.identity caller live.values.running.suite.address _ [] live.rest.calls Write is can tt
+    write_later (Err why) is = told_later Write _ _ [] is tt
+
+    ready_behind_none : (by_application : Bool) (link : Option RelationState) (blocks : List ℕ)
+        → AreNone (ready_behind by_application live.values.running.suite.address link (prm_end_of live.rest.link blocks))
+    ready_behind_none by_application link blocks =
+        by_result (λ ended. AreNone (ready_behind by_application live.values.running.suite.address link ended))
+        (λ block. cond_both by_application _ _ AreNone (λ _. tt) (λ _. ready_none live.values.running.suite.address link)) (λ why. tt)
+        (prm_end_of live.rest.link blocks)
+
+    call_after_none : (blocks : List ℕ) (link : Option RelationState)
+        → AreNone (call_after (plug_end_in blocks live.rest.link) live.values.running.suite.address link)
+    call_after_none blocks link =
+        by_result (λ ended. AreNone (call_after ended live.values.running.suite.address link)) (λ block. next_none live.values.running.suite.address link)
+        (λ why. tt) (plug_end_in blocks live.rest.link)
+
+    own_later : (blocks : List ℕ) (which : Operation) → operation_of call.header.operation ≡ Some which
+        → IsLater (handled_own station live caller call blocks which)
+    own_later blocks Connect is = told_later Connect _ _ [] is tt
+    own_later blocks Release is = told_later Release _ _ [] is tt
+    own_later blocks Read is = told_later Read _ _ [] is tt
+    own_later blocks Write is = write_later (writing_of (uuid_of live.rest.link) live.rest.real blocks) is
+    own_later blocks Control is =
+        cond_both (is_plug_control blocks live.rest.link) _ _ IsLater
+        (λ _. told_later Control _ _ _ is (call_after_none blocks _))
+        (λ _. told_later Control _ _ _ is (ready_behind_none station.options.ready_by_application _ blocks))
+    own_later blocks ReadImplicit is = told_later ReadImplicit _ _ [] is tt
+
+    -- A call for a record of the application: it is asked, and refuses the one that it displaces, or it is refused.
+    question_later : (question : Question) (displaced : Option Question) (asked : Option AskedState) → IsOfKind question
+        → ((other : Question) → displaced ≡ Some other → IsOfKind other) → IsLater (handled_question station live question displaced asked)
+    question_later question displaced (Some asked) kind other answers can =
+        refused_later station.options station.identity live.values.running.suite.address Busy displaced live.rest.calls other can
+    question_later question displaced None kind other answers can =
+        reply_later station.options station.identity live.values.running.suite.address question _ [] live.rest.calls kind can
+
+    asking_later : (blocks : List ℕ) (which : Operation) (asking : Result (Option Asking) CallFault) → operation_of call.header.operation ≡ Some which
+        → asking_of live.rest.real station.named (uuid_of live.rest.link) caller call blocks which ≡ asking
+        → IsLater (handled_asking station live caller call blocks which asking)
+    asking_later blocks which (Ok None) is asks = own_later blocks which is
+    asking_later blocks which (Ok (Some asking)) is asks =
+        let own_first = station.options.asks_own_first in
+        let displaced = displaced_by own_first asking.0 live.rest.asked in
+        question_later asking.0 displaced (asks_now asking.0 asking.1 (behind_displaced displaced live.rest.asked))
+        (asking_kind live.rest.real station.named (uuid_of live.rest.link) caller call blocks which asking is asks)
+        (λ other gives. kinds other (displaced_is own_first asking.0 other live.rest.asked gives).was)
+    asking_later blocks which (Err why) is asks = told_later which _ _ [] is tt
+
+    -- A call that is handled as new.
+    pub unanswered_later : (blocks : List ℕ) (which : Operation) → operation_of call.header.operation ≡ Some which
+        → IsLater (handled_unanswered station live caller call blocks which)
+    unanswered_later blocks which is =
+        cond_both (is_repeat call.header.activity call.header.sequence live.rest.asked) _ _ IsLater (λ _ answers can. refl)
+        (λ _. asking_later blocks which (asking_of live.rest.real station.named (uuid_of live.rest.link) caller call blocks which) is refl)
+
+  -- ---- all else
 
   request_later : (asker : Mac) (asked : Service) (request : Asked) → IsLater (handled_request station live asker asked request)
   request_later asker service.Identify request =
@@ -316,7 +470,7 @@ module _ (station : Station) (live : Live) where
   request_later asker service.Get request = λ answers can. quiet (GetAnswer asker live.values.running (alias_in live.rest.peer) request ∷ []) (tt, tt) can
   request_later asker service.Set request = λ answers can.
       let ends = farewell_at (resets (plan_of (is_some live.rest.link) request) answers) live.rest.link in
-      none_later station.identity (farewells_in ends ++ SetAnswer asker request answers ∷ []) (view live.rest.calls) can
+      none_later station.options station.identity (farewells_in ends ++ SetAnswer asker request answers ∷ []) (view live.rest.calls) can
       (both_none (farewells_in ends) _ (farewells_none ends) (tt, tt))
 
   answer_to_later : (answer : ReadyAnswer) → IsLater (handled_answer station live answer)
@@ -331,7 +485,7 @@ module _ (station : Station) (live : Live) where
   answer_to_later (to_ready.Refused farewell) = λ answers can. quiet (Ends farewell ∷ []) (tt, tt) can
 
   next_later : (link : Option RelationState) → AreSendable station.identity (next_call_sent live.values.running.suite.address link)
-      → stored_later (map (bytes_of station.identity) (next_call_sent live.values.running.suite.address link)) (view live.rest.calls) ≡ view live.rest.calls
+      → stored_later station.options (map (bytes_of station.identity) (next_call_sent live.values.running.suite.address link)) (view live.rest.calls) ≡ view live.rest.calls
   next_later link can = quiet (next_call_sent live.values.running.suite.address link) (next_none live.values.running.suite.address link) can
 
   plug_answer_later : (response : Answered) (answer : PlugAnswer) → IsLater (handled_plug_answer live response answer)
@@ -379,38 +533,42 @@ module _ (station : Station) (live : Live) where
   received_later received.Taken link = λ answers can. refl
 
   -- An answer of the application, and all else that it says.
-  judged_later : (given : Gives) (judged : Result Question AnswerFault) → IsLater (handled_judged station live given judged)
-  judged_later given (Ok question) =
-      replied_later (record live.rest { asked = settled live.rest.asked; link = answered_link question given live.rest.link }) question
-      (answer_status question.request given) (answer_blocks question.request given) refl
-  judged_later given (Err why) = λ answers can. refl
+  judged_later : (given : Gives) (judged : Result Question AnswerFault) → ((question : Question) → judged ≡ Ok question → IsOfKind question)
+      → IsLater (handled_judged station live given judged)
+  judged_later given (Ok question) kind = λ answers can.
+      later_later station.options station.identity live.values.running.suite.address question (answer_status question.request given)
+      (answer_blocks question.request given) live.rest.calls (kind question refl) can
+  judged_later given (Err why) kind = λ answers can. refl
 
   local_later : (what : Handled) → ((answers : List BlockError) → (finished station.identity live.rest what answers).rest.calls ≡ live.rest.calls)
       → ((answers : List BlockError) → AllByRecursion IsOfRelation (finished station.identity live.rest what answers).sent) → IsLater what
   local_later what keeps sends answers can =
-      none_later station.identity (finished station.identity live.rest what answers).sent (view live.rest.calls) can
+      none_later station.options station.identity (finished station.identity live.rest what answers).sent (view live.rest.calls) can
       (all_relation_none (finished station.identity live.rest what answers).sent (sends answers)) ∙ ap view (sym (keeps answers))
 
   applied_later : (said : Local (ArrayVec ℕ)) → IsLater (handled_local station live said)
   applied_later said =
       by_local station live IsLater said (λ made what it. local_later what (λ answers. ap (λ (rest : Rest). rest.calls) (it.keeps answers)) it.sends)
-      (λ number given. judged_later given (judged number given live.rest.asked))
+      (λ number given. judged_later given (judged number given live.rest.asked)
+      (λ question is. kinds question (judged_goes number live.rest.asked.last given live.rest.asked.standing question is)))
 
   -- A call that has no answer in time.
-  late_later : (address : List ℕ) (late : Option Question) (calls : List Kept) → AreSendable station.identity (late_sent address late calls)
-      → stored_later (map (bytes_of station.identity) (late_sent address late calls)) (view calls) ≡ view (late_calls station.identity address late calls)
-  late_later address None calls can = refl
-  late_later address (Some question) calls can =
-      reply_later station.identity address question _ [] calls (looked question.header.activity question.header.sequence calls) can
+  late_kind : (count : ℕ) (state : AskedState) → IsSuch IsOfKind state → (question : Question) → late_in count state ≡ Some question → IsOfKind question
+  late_kind count state such question =
+      cond_both (is_over state && not (is_full count)) _ _ (λ (late : Option Question). late ≡ Some question → IsOfKind question)
+      (λ _ is. such question is) (λ _ is. absurd cc)
 
   ticked_later : IsLater (ticked station live)
   ticked_later answers can =
       let address = live.values.running.suite.address in
       let sent = unit_sent live in
-      let late = late_in (length sent) (unit_rest live).asked in
-      none_then station.identity sent (counted_sent address (length sent) (unit_rest live)) (view live.rest.calls) can
+      let asked = (unit_rest live).asked in
+      let late = late_in (length sent) asked in
+      none_then station.options station.identity sent (counted_sent station address (length sent) (unit_rest live)) (view live.rest.calls) can
       (unit_none address (counter_of (units_after 1 live.rest.units)) (due_of live.rest.link) (updated (passing live.rest.link) live.rest.link))
-      ∙ late_later address late live.rest.calls (behind_can station.identity sent (counted_sent address (length sent) (unit_rest live)) can)
+      ∙ refused_later station.options station.identity address Late late live.rest.calls
+      (late_kind (length sent) asked (left_such IsOfKind (ended_by (due_of live.rest.link).farewell) live.rest.asked kinds))
+      (behind_can station.identity sent (counted_sent station address (length sent) (unit_rest live)) can)
 
   said_later : (caller : Caller) (address : List ℕ) (said : Said) → NoCall (Reported caller address said)
       → IsLater (handled station live (Reported caller address said))
@@ -439,9 +597,20 @@ module _ (station : Station) (live : Live) where
   handled_later Elsewhere none = λ answers can. refl
 
 -- The stored answers after a step that hears no call.
-pub step_later : (outcomes : List Outcome) (station : Station) (live : Live) (heard : Heard) → NoCall heard
+pub step_later : (outcomes : List Outcome) (station : Station) (live : Live) (heard : Heard) → IsSuch IsOfKind live.rest.asked → NoCall heard
     → AreSendable station.identity (heard_step outcomes station live heard).sent
-    → stored_later (heard_step outcomes station live heard).frames (view live.rest.calls) ≡ view (heard_step outcomes station live heard).live.rest.calls
+    → stored_later station.options (heard_step outcomes station live heard).frames (view live.rest.calls) ≡ view (heard_step outcomes station live heard).live.rest.calls
 unfolding heard_step handled_step
-step_later outcomes station live heard none can =
-    handled_later station live heard none (carried outcomes live.values (items_in (handled station live heard))).answers can
+step_later outcomes station live heard kinds none can =
+    handled_later station live kinds heard none (carried outcomes live.values (items_in (handled station live heard))).answers can
+
+-- And after one that handles a call as new.
+pub call_later : (outcomes : List Outcome) (station : Station) (live : Live) (caller : Caller) (call : Called) (blocks : List ℕ) (which : Operation)
+    → IsSuch IsOfKind live.rest.asked → operation_of call.header.operation ≡ Some which
+    → AreSendable station.identity (handled_step outcomes station live (handled_unanswered station live caller call blocks which)).sent
+    → stored_later station.options (handled_step outcomes station live (handled_unanswered station live caller call blocks which)).frames (view live.rest.calls)
+    ≡ view (handled_step outcomes station live (handled_unanswered station live caller call blocks which)).live.rest.calls
+unfolding handled_step
+call_later outcomes station live caller call blocks which kinds is can =
+    unanswered_later station live kinds caller call blocks which is
+    (carried outcomes live.values (items_in (handled_unanswered station live caller call blocks which))).answers can

@@ -15,6 +15,7 @@ pub mod Items
 pub mod SetHeard
 pub mod SetSteps
 pub mod Questions
+pub mod Operations
 pub mod Later
 pub mod Asked
 pub mod Locals

@@ -20,22 +20,24 @@ use Rattle.device_core.specs.Machine.{run_of}
 use Rattle.device_core.specs.State.{Live, State, Station, station_named}
 use Rattle.octets_law.specs.Headline.{AreCycles, IsCycle, IsLife, Told}
 use Rattle.octets_law.specs.Turns.{AreSent, HasLived, IsReady, Lives, TurnsAll, told_of}
+use Rattle.octets_law.proofs.Asked.{unasked_such}
 use Rattle.octets_law.proofs.Exact.{all_exact}
 use Rattle.octets_law.proofs.Identified.{first_identified}
+use Rattle.octets_law.proofs.Operations.{IsOfKind}
 use Rattle.octets_law.proofs.Turned.{cycle_more}
 use Rattle.octets_law.proofs.Split.{AreExact, all_answered, made_by_octets, settled, told_events}
 
 -- What is reported of a cycle is a cycle, read from octets.
 is_cycle : (outcomes : List (List Outcome)) (station : Station) (first settings : Settings) (room : ℕ) (events : List Event) → AreSent outcomes station (started station.real first room) events
     → IsMadeOf (run_of outcomes station (started station.real first room) events).accepted first settings
-    → IsCycle station.identity.mac first (told_of outcomes station (started station.real first room) events) settings
+    → IsCycle station.options station.identity.mac first (told_of outcomes station (started station.real first room) events) settings
 is_cycle outcomes station first settings room events sent made =
-    let exact : AreExact station.identity.mac [] outcomes station (started station.real first room) events =
-    all_exact [] outcomes station (started station.real first room) events (λ _. refl) (λ lost. absurd (let e : false ≡ true = lost in cc)) sent in
+    let exact : AreExact station.options station.identity.mac [] outcomes station (started station.real first room) events =
+    all_exact [] outcomes station (started station.real first room) events (λ _. refl) (λ lost. absurd (let e : false ≡ true = lost in cc)) (unasked_such IsOfKind) sent in
     record {
-      made = made_by_octets station.identity.mac (told_of outcomes station (started station.real first room) events) (run_of outcomes station (started station.real first room) events).accepted first settings
-          (settled station.identity.mac [] outcomes station (started station.real first room) events exact refl refl) made;
-      answered = all_answered station.identity.mac [] outcomes station (started station.real first room) events exact refl;
+      made = made_by_octets station.options station.identity.mac (told_of outcomes station (started station.real first room) events) (run_of outcomes station (started station.real first room) events).accepted first settings
+          (settled station.options station.identity.mac [] outcomes station (started station.real first room) events exact refl refl) made;
+      answered = all_answered station.options station.identity.mac [] outcomes station (started station.real first room) events exact refl;
       identified = first_identified outcomes station (started station.real first room) events refl sent;
     }
 
@@ -131,12 +133,12 @@ lived_more as_flash station cycles events before between now device again lived 
   transcript = lived.transcript ++ one.transcript;
   settings = one.settings;
   told = one.told ∙ ap (λ l. l ++ one.transcript) lived.told ∙ append_assoc before lived.transcript one.transcript;
-  are = cycle_more station.identity.mac cycles events lived.transcript one.transcript factory_settings lived.settings one.settings lived.are one.events_are one.is;
+  are = cycle_more station.options station.identity.mac cycles events lived.transcript one.transcript factory_settings lived.settings one.settings lived.are one.events_are one.is;
   ready = one.ready;
 }
 
 -- The settings of the device are those of its life.
 pub is_life : {F : Type 0} {S : ℕ} (as_flash : Flash F S) (station : Station) (cycles : List (List Event)) (before now : List Told) (device : State F)
-    → HasLived as_flash station cycles before now device → IsLife station.identity.mac cycles before now device.live.values.running
+    → HasLived as_flash station cycles before now device → IsLife station.options station.identity.mac cycles before now device.live.values.running
 is_life as_flash station cycles before now device lived =
-    (lived.transcript, lived.told, subst (AreCycles station.identity.mac cycles lived.transcript factory_settings) (sym (ap (λ (l : Live). l.values.running) lived.ready.fresh)) lived.are)
+    (lived.transcript, lived.told, subst (AreCycles station.options station.identity.mac cycles lived.transcript factory_settings) (sym (ap (λ (l : Live). l.values.running) lived.ready.fresh)) lived.are)

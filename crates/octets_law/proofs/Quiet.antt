@@ -1,10 +1,11 @@
 -- Steps at which nothing is asked of the settings.
-use Rattle.std.proofs.Common.{◌≡◌, ◌==◌, ◌||◌, ℕ, true, List, [], ◌∷◌, zip, flat_map, filter_map, Option, None, refl, sym, ap, subst, ◌∙◌, inl, inr, if◌then◌else◌}
+use Rattle.std.proofs.Common.{◌≡◌, ◌==◌, ◌||◌, ℕ, true, List, [], ◌∷◌, zip, flat_map, filter_map, map, Option, None, refl, sym, ap, subst, ◌∙◌, inl, inr, if◌then◌else◌}
 use Rattle.pn_values.specs.declared.mac.Mac.{Mac}
 use Rattle.pn_values.specs.declared.command.Command.{Command}
 use Rattle.settings_journal.specs.settings_store.Machine.{Outcome, carried, commands_of}
 use Rattle.device_frames.specs.declared.event.Event.{Event}
 use Rattle.device_frames.specs.declared.note.Note.{Note}
+use Rattle.device_frames.specs.Sent.{Sent, bytes_of}
 use Rattle.device_core.specs.State.{Live, Rest, Station}
 use Rattle.device_core.specs.Handled.{Handled, Moves, Refuses}
 use Rattle.device_core.specs.Machine.{Stepped, handled_step, items_in}
@@ -71,13 +72,19 @@ refused_bridged mac names event outcomes station live why =
     quiet_bridged mac names event live (handled_step outcomes station live (Refuses why)) refl
     (unanswered_confirmed (asking_of mac event) [] refl) (unanswered_faulted (asking_of mac event) [] refl)
 
--- An event at which nothing is sent, and nothing is asked of the settings.
+-- An event at which no frame that is sent answers what is asked, and nothing is asked of the settings.
+pub unanswered_bridged : (mac : Mac) (names : List (List ℕ)) (event : Event) (outcomes : List Outcome) (station : Station) (live : Live) (rest : Rest)
+    (sent : List Sent) → flat_map (answers_in (asking_of mac event)) (map (bytes_of station.identity) sent) ≡ []
+    → Bridges mac names event live.values (handled_step outcomes station live (Moves rest sent))
+unfolding handled_step
+unanswered_bridged mac names event outcomes station live rest sent none =
+    quiet_bridged mac names event live (handled_step outcomes station live (Moves rest sent)) refl
+    (unanswered_confirmed (asking_of mac event) _ none) (unanswered_faulted (asking_of mac event) _ none)
+
+-- One at which nothing is sent.
 pub dropped_bridged : (mac : Mac) (names : List (List ℕ)) (event : Event) (outcomes : List Outcome) (station : Station) (live : Live) (rest : Rest)
     → Bridges mac names event live.values (handled_step outcomes station live (Moves rest []))
-unfolding handled_step
-dropped_bridged mac names event outcomes station live rest =
-    quiet_bridged mac names event live (handled_step outcomes station live (Moves rest [])) refl
-    (unanswered_confirmed (asking_of mac event) [] refl) (unanswered_faulted (asking_of mac event) [] refl)
+dropped_bridged mac names event outcomes station live rest = unanswered_bridged mac names event outcomes station live rest [] refl
 
 -- An event that asks for nothing, and whose outcome is a move.
 pub moved_bridged : (mac : Mac) (names : List (List ℕ)) (event : Event) (outcomes : List Outcome) (station : Station) (live : Live) (what : Handled)

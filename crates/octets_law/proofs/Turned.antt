@@ -7,6 +7,7 @@ use Rattle.pn_values.specs.declared.settings.Settings.{Settings}
 use Rattle.flash_model.specs.declared.flash.Flash.{Ghosts as Flash}
 use Rattle.settings_journal.specs.settings_store.Carries.{Holds, Stretch}
 use Rattle.settings_journal.specs.settings_store.Machine.{Outcome}
+use Rattle.relations.specs.declared.options.DeviceOptions.{DeviceOptions}
 use Rattle.device_frames.specs.declared.event.Event.{Event}
 use Rattle.device_core.specs.State.{Live, State, Station, store_of}
 use Rattle.device_core.specs.Machine.{Ran, Stepped, handed, run_of, step_of}
@@ -143,19 +144,19 @@ turn_more as_flash old mid new events event before between now all one =
 
 -- ---- one cycle more
 
-pub no_cycles : (mac : Mac) (first : Settings) → AreCycles mac [] [] first first
-no_cycles mac first = (refl, refl)
+pub no_cycles : (options : DeviceOptions) (mac : Mac) (first : Settings) → AreCycles options mac [] [] first first
+no_cycles options mac first = (refl, refl)
 
-pub cycle_more : (mac : Mac) (cycles : List (List Event)) (events : List Event) (front now : List Told) (first between settings : Settings) → AreCycles mac cycles front first between
-    → map (λ (told : Told). told.0) now ≡ events → IsCycle mac between now settings → AreCycles mac (cycles ++ events ∷ []) (front ++ now) first settings
-cycle_more mac [] events front now first between settings so_far are is =
-    (now, [], settings, ap (λ l. l ++ now) so_far.0 ∙ sym (append-nil now), are, subst (λ s. IsCycle mac s now settings) so_far.1 is, (refl, refl))
-cycle_more mac (one ∷ cycles) events front now first between settings so_far are is = (
+pub cycle_more : (options : DeviceOptions) (mac : Mac) (cycles : List (List Event)) (events : List Event) (front now : List Told) (first between settings : Settings) → AreCycles options mac cycles front first between
+    → map (λ (told : Told). told.0) now ≡ events → IsCycle options mac between now settings → AreCycles options mac (cycles ++ events ∷ []) (front ++ now) first settings
+cycle_more options mac [] events front now first between settings so_far are is =
+    (now, [], settings, ap (λ l. l ++ now) so_far.0 ∙ sym (append-nil now), are, subst (λ s. IsCycle options mac s now settings) so_far.1 is, (refl, refl))
+cycle_more options mac (one ∷ cycles) events front now first between settings so_far are is = (
   so_far.0,
   so_far.1 ++ now,
   so_far.2,
   ap (λ l. l ++ now) so_far.3 ∙ append_assoc so_far.0 so_far.1 now,
   so_far.4,
   so_far.5,
-  cycle_more mac cycles events so_far.1 now so_far.2 between settings so_far.6 are is,
+  cycle_more options mac cycles events so_far.1 now so_far.2 between settings so_far.6 are is,
 )

@@ -1,14 +1,14 @@
 -- A step of a Write is bridged.
-use Rattle.std.proofs.Common.{◌≡◌, ◌==◌, ℕ, Bool, true, false, List, [], ◌∷◌, drop, flat_map, Option, Some, None, Result, Ok, Err, refl, sym, ap, subst, ◌∙◌, if◌then◌else◌}
+use Rattle.std.proofs.Common.{◌≡◌, ◌==◌, ℕ, Bool, true, false, nat_eq, List, [], ◌∷◌, drop, flat_map, map, Option, Some, None, Result, Ok, Err, refl, sym, ap, subst, ◌∙◌, if◌then◌else◌}
 use Rattle.std.proofs.lemmas.Bool.{cond_both, cond-true}
 use Rattle.std.proofs.lemmas.List.{append-nil}
+use Rattle.std.specs.Cmp.Lexicographic.{pointwise}
 use Rattle.pn_values.specs.declared.command.Command.TheVariants.{SetIm}
 use Rattle.pn_values.specs.declared.set_item.BlockError.{BlockError}
 use Rattle.pn_values.specs.declared.set_item.SetItem.TheVariants.{Ask}
 use Rattle.frame_codec.specs.declared.udp.Caller.{Caller}
 use Rattle.rpc_core.specs.declared.response.Status.{Status}
 use Rattle.rpc_core.specs.declared.header.CallHeader.{CallHeader}
-use Rattle.rpc_core.specs.Cache.{Kept, Reported as Looked, again, behind_reported, looked, new, old}
 use Rattle.rpc_core.specs.Call.{Asked as Called}
 use Rattle.rpc_core.specs.Response.{answer_to}
 use Rattle.records.specs.declared.status.call_fault.CallFault.{CallFault}
@@ -33,25 +33,26 @@ use Rattle.device_frames.specs.Sendable.{AreSendable, IsSendable}
 use Rattle.device_frames.specs.Relation.{where_due}
 use Rattle.device_frames.specs.Sent.{CallAnswer, Sent, bytes_of}
 use Rattle.asked_records.specs.Answers.{unanswered_status}
-use Rattle.asked_records.specs.Asked.{AskedState, asks as asks_now, is_repeat}
+use Rattle.asked_records.specs.Asked.{AskedState, asks as asks_now, behind_displaced, displaced_by, is_repeat}
 use Rattle.asked_records.specs.Questions.{call_of, operation_of as operation_asked}
 use Rattle.asked_records.specs.declared.question.Question.{Question}
 use Rattle.asked_records.specs.declared.question.Request.{Request}
 use Rattle.asked_records.specs.declared.question.Request.TheVariants as request
 use Rattle.asked_records.specs.declared.status.Unanswered.TheVariants.{Busy}
-use Rattle.device_core.specs.Asking.{Asking as Asked, asking_of, is_new, kept_reply, reply_to}
+use Rattle.device_core.specs.Asking.{Asking as Asked, asking_of, calls_after, is_kept, is_new, looked_if, refused_sent, reply_to}
 use Rattle.device_core.specs.State.{Live, Rest, Station}
 use Rattle.device_core.specs.Several.{Judged, judged_each, texts_in}
 use Rattle.device_core.specs.Handled.{Handled, Moves, WritesEach, handled, handled_asking, handled_blocks, handled_effect, handled_new, handled_question, handled_write, kept_answer, outcome_of, replied}
 use Rattle.device_core.specs.Machine.{first_answer, handled_step, heard_step, several_answer, step_of, written_as}
 use Rattle.octets_law.specs.Bridge.{Bridges}
-use Rattle.octets_law.specs.Octets.{Call, answers_in, asking_of as asks_of, calling, commands_in, in_order, number, statuses_in, written_by}
+use Rattle.octets_law.specs.Octets.{Call, answers_in, asking_of as asks_of, called, calling, commands_in, in_order, number, statuses_in, written_by}
 use Rattle.octets_law.proofs.AnswerPlaces.{answer_statuses}
-use Rattle.octets_law.proofs.CallPlaces.{IsCallRead, name_for}
+use Rattle.octets_law.proofs.CallPlaces.{IsCallRead}
 use Rattle.octets_law.proofs.CallReads.{tested}
 use Rattle.octets_law.proofs.CallSteps.{WritesAreBridged, holds}
+use Rattle.octets_law.proofs.Operations.{displaced_is, other_name, refused_statuses}
 use Rattle.octets_law.proofs.Questions.{IsOwn, asking_own, write_plain}
-use Rattle.octets_law.proofs.Quiet.{dropped_bridged}
+use Rattle.octets_law.proofs.Quiet.{dropped_bridged, unanswered_bridged}
 use Rattle.octets_law.proofs.WriteFaults.{IsPlainIn, plain_not}
 use Rattle.octets_law.proofs.WriteAnswers.{several_read}
 use Rattle.octets_law.proofs.WriteEach.{each_asked}
@@ -163,57 +164,71 @@ module _ (names : List (List ℕ)) (outcomes : List Outcome) (station : Station)
         → handled station live (heard_of station.identity event) ≡ replied station live live.rest question status [] → Goal
     unfolding handled_step
     by_busy question status same other what =
-        stepped (replied station live live.rest question status []) what (by_looked (looked question.header.activity question.header.sequence live.rest.calls))
+        stepped (replied station live live.rest question status []) what
+        (by_due (is_new (looked_if stored question.header.activity question.header.sequence live.rest.calls))
+        (record live.rest { calls = calls_after stored station.identity question answer live.rest.calls }))
       where
         answer : Sent
         answer = reply_to live.values.running.suite.address question status []
 
-        calls : Looked → List Kept
-        calls found = behind_reported 4 (kept_reply station.identity question answer) live.rest.calls found
+        stored : Bool
+        stored = is_kept station.options (operation_asked question.request)
 
-        by_looked : (found : Looked)
-            → AreSendable station.identity (handled_step outcomes station live
-            (Moves (record live.rest { calls = calls found }) (where_due (is_new found) (answer ∷ [])))).sent
-            → Step (Moves (record live.rest { calls = calls found }) (where_due (is_new found) (answer ∷ [])))
-        by_looked (again frame) sent = dropped_bridged station.identity.mac names event outcomes station live _
-        by_looked old sent = dropped_bridged station.identity.mac names event outcomes station live _
-        by_looked new sent =
-            refused_write station.identity.mac names event live
-            (handled_step outcomes station live (Moves (record live.rest { calls = calls new }) (answer ∷ []))) (number_of status) refl other
+        by_due : (due : Bool) (rest : Rest) → AreSendable station.identity (handled_step outcomes station live (Moves rest (where_due due (answer ∷ [])))).sent
+            → Step (Moves rest (where_due due (answer ∷ [])))
+        by_due false rest sent = dropped_bridged station.identity.mac names event outcomes station live rest
+        by_due true rest sent =
+            refused_write station.identity.mac names event live (handled_step outcomes station live (Moves rest (answer ∷ []))) (number_of status) refl other
             (ap (λ a. flat_map (answers_in a) (bytes_of station.identity answer ∷ [])) asked ∙ append-nil _
             ∙ answer_statuses station.identity question.caller live.values.running.suite.address (answer_to (call_of question) status []) octets sent.0
-            (read.name ∙ sym (ap (λ (h : CallHeader). name_for h.activity h.sequence) same)))
+            (read.name ∙ sym (ap (λ (h : CallHeader). h.sequence ∷ h.activity) same)))
 
-    by_question : (question : Question) (asked : Option AskedState) → question.header ≡ call.header
-        → handled station live (heard_of station.identity event) ≡ handled_question station live question asked → Goal
-    by_question question (Some asked) same what = by_silence (record live.rest { asked = asked }) what
-    by_question question None same what =
+    -- The call that it displaces has another name.
+    abbrev IsOtherCall : Option Question → Type 0
+    IsOtherCall displaced = (other : Question) → displaced ≡ Some other → pointwise nat_eq (other.header.sequence ∷ other.header.activity) (called octets) ≡ false
+
+    by_question : (question : Question) (displaced : Option Question) (asked : Option AskedState) → question.header ≡ call.header → IsOtherCall displaced
+        → handled station live (heard_of station.identity event) ≡ handled_question station live question displaced asked → Goal
+    unfolding handled_step
+    by_question question displaced (Some later) same other what =
+        let address = live.values.running.suite.address in
+        stepped (handled_question station live question displaced (Some later)) what (λ sent.
+        unanswered_bridged station.identity.mac names event outcomes station live _ (refused_sent station.options address Busy displaced live.rest.calls)
+        (ap (λ a. flat_map (answers_in a) (map (bytes_of station.identity) (refused_sent station.options address Busy displaced live.rest.calls))) asked
+        ∙ refused_statuses station.options station.identity address octets Busy displaced live.rest.calls other sent))
+    by_question question displaced None same other what =
         by_busy question (unanswered_status (operation_asked question.request) Busy) same (busy_other question.request) what
 
     by_asking : (asking : Result (Option Asked) CallFault) → IsOwn live.rest.real station.named (uuid_of live.rest.link) caller call asking → IsPlainIn asking
+        → is_repeat call.header.activity call.header.sequence live.rest.asked ≡ false
         → handled station live (heard_of station.identity event) ≡ handled_asking station live caller call blocks Writing asking → Goal
     unfolding handled_step
-    by_asking (Ok None) own plain what = by_writing (writing_of (uuid_of live.rest.link) live.rest.real blocks) refl what
-    by_asking (Ok (Some asking)) own plain what = by_question asking.0 (asks_now asking.0 asking.1 live.rest.asked) own what
-    by_asking (Err why) own plain what =
+    by_asking (Ok None) own plain once what = by_writing (writing_of (uuid_of live.rest.link) live.rest.real blocks) refl what
+    by_asking (Ok (Some asking)) own plain once what =
+        let own_first = station.options.asks_own_first in
+        let displaced = displaced_by own_first asking.0 live.rest.asked in
+        by_question asking.0 displaced (asks_now asking.0 asking.1 (behind_displaced displaced live.rest.asked)) own
+        (λ other gives. ap (pointwise nat_eq (other.header.sequence ∷ other.header.activity)) read.name
+        ∙ other_name call.header.activity call.header.sequence other live.rest.asked (displaced_is own_first asking.0 other live.rest.asked gives).was once) what
+    by_asking (Err why) own plain once what =
         let refused : Handled = handled_asking station live caller call blocks Writing (Err why) in
         stepped refused what (λ sent.
         refused_write station.identity.mac names event live (handled_step outcomes station live refused) (number_of (status_of Writing why)) refl
         (other_fault why (plain_not why plain)) (told (outcome_of Writing (Err why)) sent.0))
 
-    by_repeat : (is : Bool)
+    by_repeat : (is : Bool) → is_repeat call.header.activity call.header.sequence live.rest.asked ≡ is
         → handled station live (heard_of station.identity event) ≡ (if is then Moves live.rest [] else handled_new station live caller call blocks Writing)
         → Goal
-    by_repeat true what = by_silence live.rest what
-    by_repeat false what =
+    by_repeat true once what = by_silence live.rest what
+    by_repeat false once what =
         let standing = uuid_of live.rest.link in
         by_asking (asking_of live.rest.real station.named standing caller call blocks Writing)
         (asking_own live.rest.real station.named standing caller call blocks Writing)
-        (write_plain live.rest.real station.named standing caller call blocks) what
+        (write_plain live.rest.real station.named standing caller call blocks) once what
 
   -- A Write is bridged, if what the device sends at it can be sent.
   pub writes_bridged : WritesAreBridged names outcomes station live event octets asks caller address call read heard
   writes_bridged is = (
     λ _ what. by_none what,
-    λ blocks counted _ what. by_repeat blocks counted is (is_repeat call.header.activity call.header.sequence live.rest.asked) what,
+    λ blocks counted _ what. by_repeat blocks counted is (is_repeat call.header.activity call.header.sequence live.rest.asked) refl what,
   )

@@ -7,9 +7,10 @@ use Rattle.pn_values.specs.declared.command.Command.{Command}
 use Rattle.pn_values.specs.declared.settings.Settings.{Settings}
 use Rattle.pn_values.specs.Command.{fold_of}
 use Rattle.pn_values.specs.Settings.{factory_settings}
+use Rattle.relations.specs.declared.options.DeviceOptions.{DeviceOptions}
 use Rattle.device_frames.specs.declared.event.Event.{Event}
 use Rattle.device_frames.specs.declared.event.Event.TheVariants.{Frame}
-use Rattle.octets_law.specs.Octets.{Asking, Set, Call, Nothing, activity_of, asking_of, block_errors, called, commands_in, confirmed, faulted, is_counted, is_dcp, is_whole, number, part, dcp_blocks, untagged}
+use Rattle.octets_law.specs.Octets.{Asking, Set, Call, Nothing, activity_of, asking_of, block_errors, called, commands_in, confirmed, faulted, in_order, is_counted, is_dcp, is_response, is_whole, number, part, dcp_blocks, untagged}
 
 -- An event, and the frames that were sent at it.
 abbrev pub Told : Type 0
@@ -25,51 +26,52 @@ sent_in transcript = flat_map (λ told. told.1) transcript
 abbrev pub Stored : Type 0
 Stored = List ℕ × List ℕ
 
+-- Whether the answer to a call is stored. The octets are those of the call or of its answer. With the option `reads_not_kept` that to a Read
+-- Implicit (operation 5) is not, and what is stored says nothing of such a call.
+abbrev pub is_stored : DeviceOptions → List ℕ → Bool
+is_stored options call = not (options.reads_not_kept && in_order 68 2 call == 5)
+
 -- The frame that is sent again for a call: that of the stored answer of its activity, if it has the call's sequence number.
-abbrev pub again_for : Asking → List Stored → List (List ℕ)
-again_for (Call call) (one ∷ others) =
-    if pointwise nat_eq (drop 1 one.0) (activity_of call) then (if pointwise nat_eq (called call) one.0 then one.1 ∷ [] else [])
-    else again_for (Call call) others
-again_for asking stored = []
+abbrev pub again_for : DeviceOptions → Asking → List Stored → List (List ℕ)
+again_for options (Call call) (one ∷ others) =
+    if pointwise nat_eq (drop 1 one.0) (activity_of call) then (if is_stored options call && pointwise nat_eq (called call) one.0 then one.1 ∷ [] else [])
+    else again_for options (Call call) others
+again_for options asking stored = []
 
 -- Whether it is a call that is answered again.
-abbrev pub is_again : Asking → List Stored → Bool
-is_again asking stored = nat_lt 0 (length (again_for asking stored))
+abbrev pub is_again : DeviceOptions → Asking → List Stored → Bool
+is_again options asking stored = nat_lt 0 (length (again_for options asking stored))
 
 -- Without the answer of this activity.
 abbrev pub without : List ℕ → List Stored → List Stored
 without activity [] = []
 without activity (one ∷ others) = if pointwise nat_eq (drop 1 one.0) activity then others else one ∷ without activity others
 
--- Whether a frame is a response to a call: version 4 and packet type 2 in a datagram.
-abbrev pub is_response : List ℕ → Bool
-is_response frame = number 12 2 frame == 0x0800 && number 0 2 (drop 42 frame) == 0x0402
-
 -- With one more frame, which answers the call that these octets name.
 abbrev pub with_answer : List ℕ → List ℕ → List Stored → List Stored
 with_answer call frame stored = (called call, frame) ∷ take 3 (without (activity_of call) stored)
 
--- What is stored after frames that are sent at no call: each response among them answers an earlier call, which the application
--- was asked, and which it names.
-abbrev pub stored_later : List (List ℕ) → List Stored → List Stored
-stored_later [] stored = stored
-stored_later (frame ∷ behind) stored = stored_later behind (if is_response frame then with_answer (drop 42 frame) frame stored else stored)
+-- What is stored after frames that are sent: each response among them is stored for the call that it names, if the answer to that call is. This is
+-- the call that came, or an earlier one that the application was asked.
+abbrev pub stored_later : DeviceOptions → List (List ℕ) → List Stored → List Stored
+stored_later options [] stored = stored
+stored_later options (frame ∷ behind) stored = stored_later options behind
+    (if is_response frame && is_stored options (drop 42 frame) then with_answer (drop 42 frame) frame stored else stored)
 
 -- What is stored after an event: the last answer of each of the last four activities. No answer to a call with wrong counts
--- is stored, and none that is sent again. A response that is sent at another event answers an earlier call, and is stored too.
-abbrev pub stored_after : Asking → List (List ℕ) → List Stored → List Stored
-stored_after (Call call) (frame ∷ behind) stored = if is_counted call && not (is_again (Call call) stored) then with_answer call frame stored else stored
-stored_after Nothing sent stored = stored_later sent stored
-stored_after asking sent stored = stored
+-- is stored, and none that is sent again.
+abbrev pub stored_after : DeviceOptions → Asking → List (List ℕ) → List Stored → List Stored
+stored_after options (Call call) sent stored = if is_counted call && not (is_again options (Call call) stored) then stored_later options sent stored else stored
+stored_after options asking sent stored = stored_later options sent stored
 
 -- ---- settings
 
 -- The commands that are found by `found` at each event, in order; none at a call that is answered again.
-abbrev pub commands_by : (Asking → List (List ℕ) → List Command) → Mac → List Stored → List Told → List Command
-commands_by found mac stored [] = []
-commands_by found mac stored (told ∷ transcript) =
+abbrev pub commands_by : (Asking → List (List ℕ) → List Command) → DeviceOptions → Mac → List Stored → List Told → List Command
+commands_by found options mac stored [] = []
+commands_by found options mac stored (told ∷ transcript) =
     let asking = asking_of mac told.0 in
-    (if is_again asking stored then [] else found asking told.1) ++ commands_by found mac (stored_after asking told.1 stored) transcript
+    (if is_again options asking stored then [] else found asking told.1) ++ commands_by found options mac (stored_after options asking told.1 stored) transcript
 
 -- Some of these commands, in order.
 abbrev pub AreAmong : List Command → List Command → Type 0
@@ -87,26 +89,26 @@ pub record AreCutOff (mac : Mac) (transcript : List Told) (commands : List Comma
 
 -- The settings are the first ones changed by all confirmed commands; or by these and then the first one that a fault stopped;
 -- or by these and then some of the commands at which the device fell silent.
-pub record AreMade (mac : Mac) (first : Settings) (transcript : List Told) (settings : Settings) : Type 0 where
+pub record AreMade (options : DeviceOptions) (mac : Mac) (first : Settings) (transcript : List Told) (settings : Settings) : Type 0 where
   pub more : List Command
-  pub at_end : (more ≡ []) ⊎ (more ≡ take 1 (commands_by faulted mac [] transcript)) ⊎ AreCutOff mac transcript more
-  pub made : settings ≡ fold_of (commands_by confirmed mac [] transcript ++ more) first
+  pub at_end : (more ≡ []) ⊎ (more ≡ take 1 (commands_by faulted options mac [] transcript)) ⊎ AreCutOff mac transcript more
+  pub made : settings ≡ fold_of (commands_by confirmed options mac [] transcript ++ more) first
 
 -- ---- answers
 
 -- What a device owes to what it is asked: to a whole Set one BlockError for each block. To a call that is answered again, with
 -- right counts, the stored frame, or nothing if the call does not reach it.
-abbrev pub IsAnswered : Asking → List Stored → List (List ℕ) → Type 0
-IsAnswered (Set set) stored sent = is_whole set ≡ true → length (flat_map (block_errors set) sent) ≡ length (dcp_blocks set)
-IsAnswered (Call call) stored sent = is_again (Call call) stored ≡ true → is_counted call ≡ true → (sent ≡ []) ⊎ (sent ≡ again_for (Call call) stored)
-IsAnswered Nothing stored sent = Unit {0}
+abbrev pub IsAnswered : DeviceOptions → Asking → List Stored → List (List ℕ) → Type 0
+IsAnswered options (Set set) stored sent = is_whole set ≡ true → length (flat_map (block_errors set) sent) ≡ length (dcp_blocks set)
+IsAnswered options (Call call) stored sent = is_again options (Call call) stored ≡ true → is_counted call ≡ true → (sent ≡ []) ⊎ (sent ≡ again_for options (Call call) stored)
+IsAnswered options Nothing stored sent = Unit {0}
 
 -- Each event is answered as it has to be, until the device falls silent.
-abbrev pub AreAnswered : Mac → List Stored → List Told → Type 0
-AreAnswered mac stored [] = Unit {0}
-AreAnswered mac stored (told ∷ transcript) =
+abbrev pub AreAnswered : DeviceOptions → Mac → List Stored → List Told → Type 0
+AreAnswered options mac stored [] = Unit {0}
+AreAnswered options mac stored (told ∷ transcript) =
     let asking = asking_of mac told.0 in
-    (sent_in (told ∷ transcript) ≡ []) ⊎ (IsAnswered asking stored told.1 × AreAnswered mac (stored_after asking told.1 stored) transcript)
+    (sent_in (told ∷ transcript) ≡ []) ⊎ (IsAnswered options asking stored told.1 × AreAnswered options mac (stored_after options asking told.1 stored) transcript)
 
 -- ---- Identify (IEC 61158-6-10, 4.3.2.3)
 
@@ -133,19 +135,19 @@ IsIdentified settings octets sent =
 -- ---- a life
 
 -- A cycle, from a start with the first settings to the loss of power, after which a start gives these.
-pub record IsCycle (mac : Mac) (first : Settings) (transcript : List Told) (settings : Settings) : Type 0 where
-  pub made : AreMade mac first transcript settings
-  pub answered : AreAnswered mac [] transcript
+pub record IsCycle (options : DeviceOptions) (mac : Mac) (first : Settings) (transcript : List Told) (settings : Settings) : Type 0 where
+  pub made : AreMade options mac first transcript settings
+  pub answered : AreAnswered options mac [] transcript
   pub identified : (octets : List ℕ) (sent : List (List ℕ)) (later : List Told)
       → transcript ≡ (Frame (record { items = octets }), sent) ∷ later → IsIdentified first octets sent
 
 -- Cycles of these events, one after another.
-abbrev pub AreCycles : Mac → List (List Event) → List Told → Settings → Settings → Type 0
-AreCycles mac [] transcript first settings = (transcript ≡ []) × (settings ≡ first)
-AreCycles mac (events ∷ cycles) transcript first settings =
+abbrev pub AreCycles : DeviceOptions → Mac → List (List Event) → List Told → Settings → Settings → Type 0
+AreCycles options mac [] transcript first settings = (transcript ≡ []) × (settings ≡ first)
+AreCycles options mac (events ∷ cycles) transcript first settings =
     (now : List Told) × (later : List Told) × (between : Settings) × (transcript ≡ now ++ later) × (map (λ told. told.0) now ≡ events)
-    × IsCycle mac first now between × AreCycles mac cycles later between settings
+    × IsCycle options mac first now between × AreCycles options mac cycles later between settings
 
 -- What was reported since is a life of these cycles, from a blank chip on.
-abbrev pub IsLife : Mac → List (List Event) → List Told → List Told → Settings → Type 0
-IsLife mac cycles before now settings = (transcript : List Told) × (now ≡ before ++ transcript) × AreCycles mac cycles transcript factory_settings settings
+abbrev pub IsLife : DeviceOptions → Mac → List (List Event) → List Told → List Told → Settings → Type 0
+IsLife options mac cycles before now settings = (transcript : List Told) × (now ≡ before ++ transcript) × AreCycles options mac cycles transcript factory_settings settings

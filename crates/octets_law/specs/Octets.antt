@@ -80,15 +80,11 @@ block_errors set frame =
 abbrev pub in_order : ℕ → ℕ → List ℕ → ℕ
 in_order place size call = if number 4 1 call / 16 == 1 then little_number size (drop place call) else number place size call
 
--- What names a call: its activity, and its sequence number.
-abbrev pub name_of : List ℕ → List ℕ
-name_of call = in_order 40 4 call ∷ in_order 44 2 call ∷ in_order 46 2 call ∷ in_order 64 4 call ∷ part 48 8 call
-
 -- The activity of a call: 16 octets, as they are with the highest octet first.
 abbrev pub activity_of : List ℕ → List ℕ
 activity_of call = if number 4 1 call / 16 == 1 then turned (part 40 16 call) else part 40 16 call
 
--- The sequence number of a call and its activity.
+-- What names a call: its sequence number and its activity.
 abbrev pub called : List ℕ → List ℕ
 called call = in_order 64 4 call ∷ activity_of call
 
@@ -133,13 +129,16 @@ abbrev pub statuses_in : ℕ → List ℕ → List ℕ
 statuses_in (suc most) (first ∷ behind) = number 44 4 (first ∷ behind) ∷ statuses_in most (drop 64 (first ∷ behind))
 statuses_in most octets = []
 
+-- Whether a frame is a response to a call: version 4 and packet type 2 in a datagram. The octets of the response begin after 14 of Ethernet, 20 of
+-- IPv4 and 8 of UDP.
+abbrev pub is_response : List ℕ → Bool
+is_response frame = number 12 2 frame == 0x0800 && number 0 2 (drop 42 frame) == 0x0402
+
 -- The statuses with which a frame answers a call: of the call, and of each record of a list; none if it is no answer to it.
--- In an answer the call's octets begin after 14 of Ethernet, 20 of IPv4 and 8 of UDP.
 abbrev pub statuses : List ℕ → List ℕ → List ℕ
 statuses call frame =
-    let answer = drop 42 frame in
-    if number 12 2 frame == 0x0800 && (number 0 2 answer == 0x0402 && pointwise nat_eq (name_of answer) (name_of call))
-    then number 80 4 answer ∷ statuses_in 16 (drop 64 (args_of answer)) else []
+    if is_response frame && pointwise nat_eq (called (drop 42 frame)) (called call)
+    then number 80 4 (drop 42 frame) ∷ statuses_in 16 (drop 64 (args_of (drop 42 frame))) else []
 
 -- ---- events
 

@@ -1,5 +1,5 @@
 -- What a device owes to a call, read at fixed places.
-use Rattle.std.specs.Prelude.{◌≡◌, ◌⊎◌, ◌+◌, ◌-◌, ◌/◌, ◌%◌, ◌==◌, ◌&&◌, ℕ, Bool, true, false, flat_map, length, nat_eq, nat_le, nat_lt, List, [], ◌∷◌, take, None, is_some, if◌then◌else◌}
+use Rattle.std.specs.Prelude.{◌≡◌, ◌⊎◌, ◌+◌, ◌-◌, ◌/◌, ◌%◌, ◌==◌, ◌&&◌, ℕ, Bool, true, false, flat_map, length, nat_eq, nat_le, nat_lt, List, [], ◌∷◌, drop, take, Some, None, is_some, if◌then◌else◌}
 use Rattle.std.specs.Cmp.Lexicographic.{pointwise}
 use Rattle.pn_values.specs.IpSuite.{is_zero}
 use Rattle.pn_values.specs.declared.mac.Mac.{Mac}
@@ -10,10 +10,13 @@ use Rattle.rpc_core.specs.declared.interface.Interface.TheVariants.{Device}
 use Rattle.rpc_core.specs.Cache.{Kept, looked, new}
 use Rattle.asked_records.specs.Asked.{AskedState, due_in, is_repeat, question_in}
 use Rattle.asked_records.specs.Names.{named_at}
+use Rattle.asked_records.specs.Questions.{is_implicit}
 use Rattle.asked_records.specs.declared.names.RecordName.{RecordName}
+use Rattle.asked_records.specs.declared.question.Question.{Question}
+use Rattle.relations.specs.declared.options.DeviceOptions.{DeviceOptions}
 use Rattle.device_frames.specs.declared.event.Event.{Event}
 use Rattle.device_frames.specs.declared.event.Event.TheVariants.{Frame, Call as Joined}
-use Rattle.octets_law.specs.Octets.{args_of, in_order, number, part, statuses}
+use Rattle.octets_law.specs.Octets.{args_of, called, in_order, is_response, number, part, statuses}
 
 -- An identifier of a call, in the byte order of the call.
 abbrev pub identifier : ℕ → List ℕ → List ℕ
@@ -53,10 +56,26 @@ is_named named blocks = is_some (named_at (number 28 2 blocks) (number 30 2 bloc
 abbrev pub AreAnswers : List ℕ → List (List ℕ) → Type 0
 AreAnswers call sent = (status : ℕ) × (records : List ℕ) × (flat_map (statuses call) sent ≡ status ∷ records)
 
--- The call is asked of the application now: nothing is sent yet, and it is refused with the 64,000th unit from now on if it is not
--- answered before.
-pub record IsAskedNow (call : List ℕ) (sent : List (List ℕ)) (asked : AskedState) : Type 0 where
-  pub silent : sent ≡ []
+-- A call that is asked no longer is refused as busy: one frame answers it, with PNIOStatus DE 80 C2 00.
+pub record IsRefused (question : Question) (sent : List (List ℕ)) : Type 0 where
+  pub frame : List ℕ
+  pub alone : sent ≡ frame ∷ []
+  pub is : is_response frame ≡ true
+  pub name : called (drop 42 frame) ≡ question.header.sequence ∷ question.header.activity
+  pub busy : number 80 4 (drop 42 frame) ≡ 0xDE80C200
+
+-- The call that was asked is displaced, with the option `asks_own_first`: it is a Read Implicit.
+pub record IsDisplaced (options : DeviceOptions) (asked : AskedState) (sent : List (List ℕ)) : Type 0 where
+  pub own_first : options.asks_own_first ≡ true
+  pub question : Question
+  pub was : question_in asked ≡ Some question
+  pub implicit : is_implicit question.request ≡ true
+  pub refused : IsRefused question sent
+
+-- The call is asked of the application now: nothing is sent yet but the refusal of a call that it displaces, and it is refused with the 64,000th
+-- unit from now on if it is not answered before.
+pub record IsAskedNow (options : DeviceOptions) (call : List ℕ) (before : AskedState) (sent : List (List ℕ)) (asked : AskedState) : Type 0 where
+  pub silent : (sent ≡ []) ⊎ IsDisplaced options before sent
   pub asks : is_repeat (identifier 40 call) (in_order 64 4 call) asked ≡ true
   pub due : due_in asked ≡ 64000
 
@@ -70,12 +89,23 @@ pub record IsNewWrite (mac : Mac) (address : List ℕ) (stored : List Kept) (ask
   pub fresh : looked (identifier 40 call) (in_order 64 4 call) stored ≡ new
   pub once : is_repeat (identifier 40 call) (in_order 64 4 call) asked ≡ false
 
+-- A Read Implicit (operation 5) that is whole, and has the address of a device that does not store the answers to these: it is no repeat of the call
+-- that the application is asked.
+pub record IsRead (options : DeviceOptions) (mac : Mac) (address : List ℕ) (asked : AskedState) (event : Event) (call : List ℕ) : Type 0 where
+  pub not_kept : options.reads_not_kept ≡ true
+  pub for : IsFor mac address event call
+  pub address_is : is_zero address ≡ false
+  pub whole : is_whole_call call ≡ true
+  pub operation : in_order 68 2 call ≡ 5
+  pub once : is_repeat (identifier 40 call) (in_order 64 4 call) asked ≡ false
+
 -- What a device owes to such a Write: the frames that are sent at the event answer it. One of a record that the station names can also
 -- be asked of its application; all others are answered at once, and so are all Writes to a station that names no records, of whose
--- application nothing is asked.
-pub record IsOwed (mac : Mac) (address : List ℕ) (named : List RecordName) (stored : List Kept) (asked : AskedState) (event : Event) (sent : List (List ℕ))
-    (later : AskedState) : Type 0 where
+-- application nothing is asked. To such a Read Implicit it owes an answer whatever was answered before, or it asks its application.
+pub record IsOwed (options : DeviceOptions) (mac : Mac) (address : List ℕ) (named : List RecordName) (stored : List Kept) (asked : AskedState) (event : Event)
+    (sent : List (List ℕ)) (later : AskedState) : Type 0 where
   pub write : (call : List ℕ) → IsNewWrite mac address stored asked event call → is_named named (args_of call) ≡ false → AreAnswers call sent
   pub named_write : (call : List ℕ) → IsNewWrite mac address stored asked event call → is_named named (args_of call) ≡ true
-      → AreAnswers call sent ⊎ IsAskedNow call sent later
+      → AreAnswers call sent ⊎ IsAskedNow options call asked sent later
+  pub read : (call : List ℕ) → IsRead options mac address asked event call → AreAnswers call sent ⊎ IsAskedNow options call asked sent later
   pub unasked : named ≡ [] → question_in asked ≡ None → question_in later ≡ None

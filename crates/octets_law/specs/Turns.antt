@@ -67,7 +67,7 @@ pub record Lives {F : Type 0} {S : ℕ} (as_flash : Flash F S) (station : Statio
   pub settings : Settings
   pub told : now ≡ before ++ transcript
   pub events_are : map (λ told. told.0) transcript ≡ events
-  pub is : IsCycle station.identity.mac first transcript settings
+  pub is : IsCycle station.options station.identity.mac first transcript settings
   pub ready : IsReady as_flash station settings again
 
 -- What was reported since is cycles of these events, after which a device is ready.
@@ -75,5 +75,5 @@ pub record HasLived {F : Type 0} {S : ℕ} (as_flash : Flash F S) (station : Sta
   pub transcript : List Told
   pub settings : Settings
   pub told : now ≡ before ++ transcript
-  pub are : AreCycles station.identity.mac cycles transcript factory_settings settings
+  pub are : AreCycles station.options station.identity.mac cycles transcript factory_settings settings
   pub ready : IsReady as_flash station settings device

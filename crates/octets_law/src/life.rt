@@ -70,7 +70,7 @@ pub fn live<F: Flash<S>, const S: usize, T: Product, W: Witness, P: Fn(F) -> F>(
 
     // From a blank chip on, whatever the flash does: what was reported is a life of these cycles, and the device has its settings.
     ensures octets { F.image flash ≡ record { first = erased S; second = erased S } →
-        IfOk result (λ device. IsLife (T.identity_of product.now).mac (map (λ events. events.items) cycles.now)
+        IfOk result (λ device. IsLife options (T.identity_of product.now).mac (map (λ events. events.items) cycles.now)
         (W.told witness.old) (W.told witness.new) device.live.values.running) }
     // A start is refused only if the flash cannot be read.
     ensures left { F.image flash ≡ record { first = erased S; second = erased S } → IfErr result (λ refused. refused.0 ≡ BootFault.FlashFault) }

@@ -13,9 +13,11 @@ pub fn step<F: Flash<S>, const S: usize>(
     outbox: &mut Outbox,
 ) -> Note
     // A whole Write to the running address that is not repeated or outdated is answered in the step, or, if it is of one record that the
-    // station names, the application is asked. Whether anything is sent once power is lost is not said here.
-    ensures owed { IsOwed device.old.station.identity.mac device.old.live.values.running.suite.address device.old.station.named
-        device.old.live.rest.calls device.old.live.rest.asked event.now (boxed outbox.new) device.new.live.rest.asked }
+    // station names, the application is asked. So is a whole Read Implicit, repeated or not, if the answers to these are not stored.
+    // Whether anything is sent once power is lost is not said here.
+    ensures owed { IsOwed device.old.station.options device.old.station.identity.mac device.old.live.values.running.suite.address
+        device.old.station.named device.old.live.rest.calls device.old.live.rest.asked event.now (boxed outbox.new)
+        device.new.live.rest.asked }
 {
     device.step(event, outbox)
 }

@@ -4,7 +4,7 @@ use Rattle.std.proofs.Common.{◌≡◌, ◌⊎◌, inl, inr, ◌==◌, ◌&&◌
 use Rattle.std.specs.Prelude.{nat_eq, unwrap_or}
 use Rattle.std.specs.List.{AllByRecursion}
 use Rattle.std.specs.Cmp.Lexicographic.{pointwise}
-use Rattle.std.proofs.lemmas.Bool.{and_parts, eqb-true}
+use Rattle.std.proofs.lemmas.Bool.{and_parts, eqb-true, false≢true}
 use Rattle.flash_model.specs.declared.flash.Flash.{Ghosts as Flash}
 use Rattle.settings_journal.specs.settings_store.Machine.{Outcome}
 use Rattle.pn_values.specs.declared.real.RealModule.{RealModule}
@@ -355,7 +355,8 @@ module _ {F : Type 0} (so : DeviceSo) (hears : HearsSo) (blocks_so : BlocksSo) {
         first_tells (inr (inr (inr (inr (inr (inl it)))))) = absurd (nil_cons answered.frame answered.others (frames_of [] it.silent))
         first_tells (inr (inr (inr (inr (inr (inr (inl it))))))) =
             one_tells it.new_call.caller live.values.running.suite.address (answer_to it.new_call.call it.status []) [] it.sends (λ answers done. empty_tells Clear)
-        first_tells (inr (inr (inr (inr (inr (inr (inr it))))))) = absurd (idle_call sequence ask (sym (it.idle (is_planned setup)) ∙ is))
+        first_tells (inr (inr (inr (inr (inr (inr (inr (inr it)))))))) = absurd (false≢true (sym (follows.own it.question it.asked).1 ∙ it.implicit))
+        first_tells (inr (inr (inr (inr (inr (inr (inr (inl it)))))))) = absurd (idle_call sequence ask (sym (it.idle (is_planned setup)) ∙ is))
 
     -- ---- a step of the device
 

@@ -70,7 +70,7 @@ use Rattle.diagnosis.specs.Queue.{is_next}
 use Rattle.expected_places.specs.Machine.{PlugState, answered as places_answered, ended as places_ended, next_called, readied}
 use Rattle.pn_alarms.specs.declared.abort.Abort.{Abort}
 use Rattle.asked_records.specs.Answers.{Gives, gives_octets, gives_done, gives_refusal, is_refusal, judged}
-use Rattle.asked_records.specs.Asked.{AskedState, asks, is_repeat}
+use Rattle.asked_records.specs.Asked.{AskedState, asks, behind_displaced, displaced_by, is_repeat}
 use Rattle.asked_records.specs.Questions.{header_of}
 use Rattle.asked_records.specs.declared.answering.AnswerFault.{AnswerFault}
 use Rattle.asked_records.specs.declared.question.Question.{Question}
@@ -93,7 +93,7 @@ use Rattle.relations.specs.RelationState.{passes_on}
 use Rattle.relations.specs.Ready.{answer_of as ready_answer}
 use Rattle.relations.specs.Timers.{ending_of, plugs_later}
 use Rattle.records.specs.calls.Naming.{is_relation}
-use Rattle.device_core.specs.Asking.{Asking, asking_of, source_of}
+use Rattle.device_core.specs.Asking.{Asking, asking_of, is_kept, looked_if, source_of}
 use Rattle.device_core.specs.Handled.{partner_of, starting_of}
 use Rattle.device_core.specs.Machine.{effect_link, finished, handled_step, heard_step, items_in, link_after, link_behind, one_link, resets, written_as}
 use Rattle.device_core.specs.Machine.{first_answer}
@@ -135,13 +135,18 @@ holding_of link = record { taken = link.taken; plugs = link.plugs }
 abbrev pub held : Option RelationState → Option Holding
 held link = option_map holding_of link
 
+-- A call is new to the device. The answers to Read Implicit may be stored or not.
+abbrev pub IsFresh : Live → Call → Operation → Type 0
+IsFresh live call ReadImplicit = Unit {0}
+IsFresh live call operation = looked call.header.activity call.header.sequence live.rest.calls ≡ new
+
 -- A call is heard that is new to the device, with this operation.
 pub record IsCall (live : Live) (heard : Heard) (caller : Caller) (call : Call) (blocks : List ℕ) (operation : Operation) : Type 0 where
   pub address : List ℕ
   pub is : heard ≡ Reported caller address (Calls call)
   pub asks : operation_of call.header.operation ≡ Some operation
   pub counted : call.blocks ≡ Some blocks
-  pub fresh : looked call.header.activity call.header.sequence live.rest.calls ≡ new
+  pub fresh : IsFresh live call operation
 
 -- A Connect is accepted.
 pub record IsMade (live : Live) (heard : Heard) (after : Option RelationState) : Type 0 where
@@ -730,25 +735,37 @@ module _ (station : Station) (live : Live) (answers : List BlockError) (heard : 
       by_named true read = inl (named_same (partner_of caller) read live.rest.link)
       by_named false read = inl (quiet_same (answered Unmoved read) live.rest.link (answered_quiet Unmoved read tt))
 
-  question_goes : (question : Question) (asked : Option AskedState) → LinkBy (handled_question station live question asked)
-  question_goes question (Some asked) = stays
-  question_goes question None = stays
+  question_goes : (question : Question) (displaced : Option Question) (asked : Option AskedState) → LinkBy (handled_question station live question displaced asked)
+  question_goes question displaced (Some asked) = stays
+  question_goes question displaced None = stays
 
   asking_goes : (caller : Caller) (call : Call) (blocks : List ℕ) (operation : Operation) (asking : Result (Option Asking) CallFault)
       → IsCall live heard caller call blocks operation
       → LinkBy (handled_asking station live caller call blocks operation asking)
   asking_goes caller call blocks operation (Ok None) came = own_goes caller call blocks operation came
-  asking_goes caller call blocks operation (Ok (Some asking)) came = question_goes asking.0 (asks asking.0 asking.1 live.rest.asked)
+  asking_goes caller call blocks operation (Ok (Some asking)) came =
+      let displaced = displaced_by station.options.asks_own_first asking.0 live.rest.asked in
+      question_goes asking.0 displaced (asks asking.0 asking.1 (behind_displaced displaced live.rest.asked))
   asking_goes caller call blocks operation (Err fault) came = stays
 
   looked_goes : (caller : Caller) (address : List ℕ) (call : Call) (blocks : List ℕ) (operation : Operation) (reported : Looked)
-      → (looked call.header.activity call.header.sequence live.rest.calls ≡ new → IsCall live heard caller call blocks operation)
-      → looked call.header.activity call.header.sequence live.rest.calls ≡ reported → LinkBy (handled_looked station live caller call blocks operation reported)
+      → (looked_if (is_kept station.options operation) call.header.activity call.header.sequence live.rest.calls ≡ new → IsCall live heard caller call blocks operation)
+      → looked_if (is_kept station.options operation) call.header.activity call.header.sequence live.rest.calls ≡ reported
+      → LinkBy (handled_looked station live caller call blocks operation reported)
   looked_goes caller address call blocks operation new came e =
       cond_both (is_repeat call.header.activity call.header.sequence live.rest.asked) _ _ LinkBy (λ _. stays)
       (λ _. asking_goes caller call blocks operation (asking_of live.rest.real station.named (uuid_of live.rest.link) caller call blocks operation) (came e))
   looked_goes caller address call blocks operation (again frame) came e = stays
   looked_goes caller address call blocks operation old came e = stays
+
+  fresh_of : (call : Call) (operation : Operation)
+      → looked_if (is_kept station.options operation) call.header.activity call.header.sequence live.rest.calls ≡ new → IsFresh live call operation
+  fresh_of call Connect fresh = fresh
+  fresh_of call Release fresh = fresh
+  fresh_of call Read fresh = fresh
+  fresh_of call Write fresh = fresh
+  fresh_of call Control fresh = fresh
+  fresh_of call ReadImplicit fresh = tt
 
   call_goes : (caller : Caller) (address : List ℕ) (call : Call) → heard ≡ Reported caller address (Calls call) → (operation : Option Operation)
       → operation_of call.header.operation ≡ operation → LinkBy (handled_call station live caller call operation)
@@ -757,8 +774,9 @@ module _ (station : Station) (live : Live) (answers : List BlockError) (heard : 
     where
       by_blocks : (blocks : Option (List ℕ)) → call.blocks ≡ blocks → LinkBy (handled_blocks station live caller call operation blocks)
       by_blocks None e = stays
-      by_blocks (Some blocks) e = looked_goes caller address call blocks operation (looked call.header.activity call.header.sequence live.rest.calls)
-          (λ fresh. record { address = address; is = is; asks = asks; counted = e; fresh = fresh }) refl
+      by_blocks (Some blocks) e = looked_goes caller address call blocks operation
+          (looked_if (is_kept station.options operation) call.header.activity call.header.sequence live.rest.calls)
+          (λ fresh. record { address = address; is = is; asks = asks; counted = e; fresh = fresh_of call operation fresh }) refl
 
   answer_goes : (answer : ReadyAnswer) → LinkBy (handled_answer station live answer)
   answer_goes to_ready.NotWanted = stays

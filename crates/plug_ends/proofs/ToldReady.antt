@@ -14,7 +14,7 @@ use Rattle.dcp_core.specs.Request.{Asked}
 use Rattle.dcp_core.specs.Identify.{matches}
 use Rattle.dcp_core.specs.Set.{plan_of}
 use Rattle.rpc_core.specs.Call.{Asked as Called}
-use Rattle.rpc_core.specs.Cache.{Kept, Reported as Looked, new, again, old, looked}
+use Rattle.rpc_core.specs.Cache.{Kept, Reported as Looked, new, again, old}
 use Rattle.rpc_core.specs.Response.{Answered}
 use Rattle.records.specs.declared.status.operation.Operation.{Operation}
 use Rattle.records.specs.declared.status.operation.Operation.TheVariants.{Connect, Release, Read, Write, Control, ReadImplicit}
@@ -41,7 +41,12 @@ use Rattle.cyclic_data.specs.declared.exchange.received.Received.{Received}
 use Rattle.cyclic_data.specs.declared.exchange.received.Received.TheVariants as received
 use Rattle.cyclic_data.specs.declared.exchange.route.Route.{Route}
 use Rattle.asked_records.specs.Answers.{Gives, gives_done, gives_octets, gives_refusal, judged}
-use Rattle.asked_records.specs.Asked.{AskedState, asks, is_repeat}
+use Rattle.asked_records.specs.Asked.{AskedState, asks, behind_displaced, displaced_by, is_repeat}
+use Rattle.asked_records.specs.Questions.{operation_of as operation_asked}
+use Rattle.asked_records.specs.declared.status.Unanswered.{Unanswered}
+use Rattle.asked_records.specs.declared.status.Unanswered.TheVariants.{Busy, Late}
+use Rattle.pn_values.specs.IpSuite.{is_zero}
+use Rattle.relations.specs.declared.options.DeviceOptions.{DeviceOptions}
 use Rattle.asked_records.specs.declared.answering.AnswerFault.{AnswerFault}
 use Rattle.asked_records.specs.declared.question.Question.{Question}
 use Rattle.expected_places.specs.declared.calls.PlugCall.{PlugCall}
@@ -72,7 +77,7 @@ use Rattle.device_frames.specs.Relation.{alarms_of, due_frames, farewells_in, fr
 use Rattle.device_frames.specs.Relation.{ready_calls, replies_of, where_due}
 use Rattle.device_frames.specs.Sent.{Sent, SetAnswer, PlugReadyCall}
 use Rattle.device_core.specs.State.{Live, Station, alias_in, counter_of, units_after}
-use Rattle.device_core.specs.Asking.{Asking, asking_of, is_new, late_in, late_reply, late_sent}
+use Rattle.device_core.specs.Asking.{Asking, asking_of, is_kept, is_new, late_in, late_sent, later_replies, looked_if, refused_reply, refused_sent}
 use Rattle.device_core.specs.Handled.{Handled, change_of, handled, handled_alarm, handled_answer, handled_asking, handled_blocks, handled_call}
 use Rattle.device_core.specs.Handled.{handled_change, handled_effect, handled_input, handled_judged, handled_local, handled_looked, handled_low}
 use Rattle.device_core.specs.Handled.{handled_low_pdu, handled_modules, handled_notice, handled_own, handled_pdu, handled_plug_answer, handled_plug_end}
@@ -157,10 +162,18 @@ ends_other true None = tt
 ends_other true (Some link) = (tt, tt)
 ends_other false link = tt
 
-late_other : (address : List ℕ) (found : Option Question) (calls : List Kept) → AreOthers (late_sent address found calls)
-late_other address None calls = tt
-late_other address (Some question) calls =
-    due_each IsOther (is_new (looked question.header.activity question.header.sequence calls)) (late_reply address question ∷ []) (tt, tt)
+-- the response to a call that was asked, which may be dropped
+later_other : (kept : Bool) (address : List ℕ) (question : Question) (answer : Sent) (calls : List Kept) → IsOther answer
+    → AreOthers (later_replies kept address question answer calls)
+later_other kept address question answer calls other =
+    cond_both (is_zero address) _ _ AreOthers (λ _. tt)
+    (λ _. due_each IsOther (is_new (looked_if kept question.header.activity question.header.sequence calls)) (answer ∷ []) (other, tt))
+
+refused_other : (options : DeviceOptions) (address : List ℕ) (reason : Unanswered) (found : Option Question) (calls : List Kept)
+    → AreOthers (refused_sent options address reason found calls)
+refused_other options address reason None calls = tt
+refused_other options address reason (Some question) calls =
+    later_other (is_kept options (operation_asked question.request)) address question (refused_reply address reason question) calls tt
 
 -- ---- messages that are
 
@@ -202,12 +215,18 @@ module _ (station : Station) (live : Live) (answers : List BlockError) where
   abbrev address_of : List ℕ
   address_of = live.values.running.suite.address
 
-  question_good : (question : Question) (asked : Option AskedState) → IsGood (handled_question station live question asked)
-  question_good question (Some asked) = tt
-  question_good question None = others_active live.rest.link _ (due_each IsOther (is_new (looked question.header.activity question.header.sequence live.rest.calls)) (_ ∷ []) (tt, tt))
+  -- whether the response to a call that was asked is stored
+  abbrev is_stored : Question → Bool
+  is_stored question = is_kept station.options (operation_asked question.request)
+
+  question_good : (question : Question) (displaced : Option Question) (asked : Option AskedState) → IsGood (handled_question station live question displaced asked)
+  question_good question displaced (Some asked) =
+      others_active live.rest.link _ (refused_other station.options address_of Busy displaced live.rest.calls)
+  question_good question displaced None = others_active live.rest.link _
+      (due_each IsOther (is_new (looked_if (is_stored question) question.header.activity question.header.sequence live.rest.calls)) (_ ∷ []) (tt, tt))
 
   judged_good : (given : Gives) (question : Result Question AnswerFault) → IsGood (handled_judged station live given question)
-  judged_good given (Ok question) = others_active _ _ (due_each IsOther (is_new (looked question.header.activity question.header.sequence live.rest.calls)) (_ ∷ []) (tt, tt))
+  judged_good given (Ok question) = others_active _ _ (later_other (is_stored question) address_of question _ live.rest.calls tt)
   judged_good given (Err why) = tt
 
   ticked_good : IsGood (ticked station live)
@@ -215,9 +234,9 @@ module _ (station : Station) (live : Live) (answers : List BlockError) where
       let link = updated (passing live.rest.link) live.rest.link in
       let sent = unit_sent live in
       let late = late_in (length sent) (unit_rest live).asked in
-      all_both (IsActiveCall link) sent (late_sent address_of late live.rest.calls)
+      all_both (IsActiveCall link) sent (late_sent station.options address_of late live.rest.calls)
       (unit_active address_of (counter_of (units_after 1 live.rest.units)) (due_of live.rest.link) link)
-      (others_active link (late_sent address_of late live.rest.calls) (late_other address_of late live.rest.calls))
+      (others_active link (late_sent station.options address_of late live.rest.calls) (refused_other station.options address_of Late late live.rest.calls))
 
   request_good : (asker : Mac) (asked : Service) (request : Asked) → IsGood (handled_request station live asker asked request)
   request_good asker service.Identify request =
@@ -262,7 +281,9 @@ module _ (station : Station) (live : Live) (answers : List BlockError) where
   asking_good : (caller : Caller) (call : Called) (blocks : List ℕ) (operation : Operation) (asking : Result (Option Asking) CallFault)
       → IsGood (handled_asking station live caller call blocks operation asking)
   asking_good caller call blocks operation (Ok None) = own_good caller call blocks operation
-  asking_good caller call blocks operation (Ok (Some asking)) = question_good asking.0 (asks asking.0 asking.1 live.rest.asked)
+  asking_good caller call blocks operation (Ok (Some asking)) =
+      let displaced = displaced_by station.options.asks_own_first asking.0 live.rest.asked in
+      question_good asking.0 displaced (asks asking.0 asking.1 (behind_displaced displaced live.rest.asked))
   asking_good caller call blocks operation (Err why) = (tt, tt)
 
   looked_good : (caller : Caller) (call : Called) (blocks : List ℕ) (operation : Operation) (reported : Looked)
@@ -275,7 +296,8 @@ module _ (station : Station) (live : Live) (answers : List BlockError) where
 
   blocks_good : (caller : Caller) (call : Called) (operation : Operation) (blocks : Option (List ℕ)) → IsGood (handled_blocks station live caller call operation blocks)
   blocks_good caller call operation None = (tt, tt)
-  blocks_good caller call operation (Some blocks) = looked_good caller call blocks operation (looked call.header.activity call.header.sequence live.rest.calls)
+  blocks_good caller call operation (Some blocks) =
+      looked_good caller call blocks operation (looked_if (is_kept station.options operation) call.header.activity call.header.sequence live.rest.calls)
 
   call_good : (caller : Caller) (call : Called) (operation : Option Operation) → IsGood (handled_call station live caller call operation)
   call_good caller call None = tt

@@ -4,7 +4,7 @@ use Rattle.std.proofs.Common.{take, Option, Some, None, Result, Ok, Err, refl, s
 use Rattle.std.specs.Prelude.{if◌then◌else◌, nat_lt, slice_get}
 use Rattle.std.specs.List.{AllByRecursion}
 use Rattle.std.proofs.Math.Nat.{mod-lt}
-use Rattle.std.proofs.lemmas.Bool.{cond-false, false≢true, ne_eqb}
+use Rattle.std.proofs.lemmas.Bool.{cond-false, cond_both, false≢true, ne_eqb}
 use Rattle.wire.specs.Codec.{◌>>=◌}
 use Rattle.wire.specs.Checks.{or_fault}
 use Rattle.wire.specs.Formats.{big_number}
@@ -65,7 +65,7 @@ use Rattle.controller_messages.specs.declared.setup.Setup.{Setup}
 use Rattle.controller_messages.specs.PlugRequests.{plug_blocks, plug_call, plug_operation, plug_write_blocks}
 use Rattle.end_laws.specs.both.Small as small
 use Rattle.end_laws.specs.both.Small.{Rules}
-use Rattle.end_laws.specs.device.Does.{Does, Following, IsEffect, IsUncalled, Plugging, Questions, Readying, Serves, Written, readied_from}
+use Rattle.end_laws.specs.device.Does.{Does, Following, GivesWay, Implicitly, IsEffect, IsForRecord, IsUncalled, Plugging, Readying, Serves, Tells, Written, readied_from}
 use Rattle.end_laws.specs.device.Small.{IsPlanned, IsPlannedAs, Planned, heard_as}
 use Rattle.end_laws.specs.device.Turn.{Turn}
 use Rattle.end_laws.specs.hearing.Stations.{IsSetup}
@@ -78,10 +78,16 @@ use Rattle.asked_records.specs.Judging.{asked_name, asked_write, write_found}
 use Rattle.asked_records.specs.Names.{named_at}
 use Rattle.asked_records.specs.declared.names.RecordName.{RecordName}
 use Rattle.asked_records.specs.declared.question.Question.{Question}
+use Rattle.asked_records.specs.declared.question.Request.{Request as Wanted}
 use Rattle.asked_records.specs.declared.question.Request.TheVariants as wanted
+use Rattle.asked_records.specs.Answers.{unanswered_status}
+use Rattle.asked_records.specs.Questions.{operation_of as operation_asked}
+use Rattle.asked_records.specs.declared.status.Unanswered.TheVariants.{Busy}
+use Rattle.pn_values.specs.IpSuite.{is_zero}
+use Rattle.device_frames.specs.Relation.{where_due}
 use Rattle.records.specs.calls.Naming.{in_relation}
 use Rattle.records.specs.reads.Handled.{has_parameter}
-use Rattle.device_core.specs.Asking.{Asking, asking_of, asking_write, question_of, write_within}
+use Rattle.device_core.specs.Asking.{Asking, asking_of, asking_write, is_kept, is_new, looked_if, question_of, refused_reply, refused_sent, write_within}
 use Rattle.end_laws.specs.both.Steps.{IsSameOrNone}
 use Rattle.plug_ends.specs.Taken.{IsPositive, IsWriteOf, TakesOne, hears_plug, taken_in}
 
@@ -483,6 +489,15 @@ module _ (read : (block : Block) (rest : List ℕ) → CanBeWritten block → bl
           by_served (inr (inl one)) = one
           by_served (inr (inr same)) = absurd (false≢true (sym (keeps_all same.1.0 same.1.1) ∙ same.1.2))
 
+    -- a call is heard, so a Read Implicit that is asked gives way, if it does not stay
+    given_way : (it : Implicitly station live heard after sent) → GivesWay station live heard it.question after sent
+    given_way it = by_kind it.does
+      where
+        by_kind : Tells station live heard it.question after sent ⊎ GivesWay station live heard it.question after sent
+            → GivesWay station live heard it.question after sent
+        by_kind (inl tells) = absurd (call_not_idle (sym (heard_is caller address) ∙ tells.idle none_planned))
+        by_kind (inr gives) = gives
+
     pub any_came : Same ⊎ OneMore
     any_came = by_does (turns rules setup.activity outcomes station live heard planned).does
       where
@@ -502,7 +517,8 @@ module _ (read : (block : Block) (rest : List ℕ) → CanBeWritten block → bl
         by_does (inr (inr (inr (inr (inl it))))) = by_served (served it)
         by_does (inr (inr (inr (inr (inr (inl it)))))) = inl (ap (λ (r : Rest). taken_in r.link) it.becomes)
         by_does (inr (inr (inr (inr (inr (inr (inl it))))))) = inl (ap (λ (r : Rest). taken_in r.link) it.becomes)
-        by_does (inr (inr (inr (inr (inr (inr (inr it))))))) = absurd (call_not_idle (sym (heard_is caller address) ∙ it.idle none_planned))
+        by_does (inr (inr (inr (inr (inr (inr (inr (inr it)))))))) = inl (ap taken_in (given_way it).link)
+        by_does (inr (inr (inr (inr (inr (inr (inr (inl it)))))))) = absurd (call_not_idle (sym (heard_is caller address) ∙ it.idle none_planned))
 
     abbrev Each_so : List Sent → Type 0
     Each_so messages = AllByRecursion (λ message. IsPositive message → OneMore) messages
@@ -519,6 +535,22 @@ module _ (read : (block : Block) (rest : List ℕ) → CanBeWritten block → bl
         readied_so own (Some (Readying ready)) = ((λ positive. absurd positive), tt)
         readied_so own (Some (Plugging ready)) = ((λ positive. absurd positive), tt)
 
+        -- the response to a call that gives way is negative
+        busy_undone : (request : Wanted) → is_done (unanswered_status (operation_asked request) Busy) ≡ false
+        busy_undone (wanted.Read request) = refl
+        busy_undone (wanted.ReadImplicit request) = refl
+        busy_undone (wanted.Write request) = refl
+
+        busy_so : (question : Question) → Each_so (refused_sent station.options live.values.running.suite.address Busy (Some question) live.rest.calls)
+        busy_so question =
+            let kept = is_kept station.options (operation_asked question.request) in
+            cond_both (is_zero live.values.running.suite.address) _ _ Each_so (λ _. tt)
+            (λ _. by_due (is_new (looked_if kept question.header.activity question.header.sequence live.rest.calls)))
+          where
+            by_due : (b : Bool) → Each_so (where_due b (refused_reply live.values.running.suite.address Busy question ∷ []))
+            by_due true = ((λ positive. absurd (false≢true (sym (busy_undone question.request) ∙ positive))), tt)
+            by_due false = tt
+
         by_does : Does station live heard after sent → Each_so sent
         by_does (inl it) = none_sent it.silent
         by_does (inr (inl it)) = absurd (subst (λ (what : small.ToDevice). IsUncalled what) (heard_is caller address) (it.uncalled none_planned))
@@ -530,7 +562,9 @@ module _ (read : (block : Block) (rest : List ℕ) → CanBeWritten block → bl
         by_does (inr (inr (inr (inr (inr (inl it)))))) = none_sent it.silent
         by_does (inr (inr (inr (inr (inr (inr (inl it))))))) =
             subst (λ (messages : List Sent). Each_so messages) (sym it.sends) ((λ positive. absurd (false≢true (sym it.undone ∙ positive))), tt)
-        by_does (inr (inr (inr (inr (inr (inr (inr it))))))) = absurd (call_not_idle (sym (heard_is caller address) ∙ it.idle none_planned))
+        by_does (inr (inr (inr (inr (inr (inr (inr (inr it)))))))) =
+            subst (λ (messages : List Sent). Each_so messages) (sym (given_way it).sends) (busy_so it.question)
+        by_does (inr (inr (inr (inr (inr (inr (inr (inl it)))))))) = absurd (call_not_idle (sym (heard_is caller address) ∙ it.idle none_planned))
 
     -- it is not asked of the application, whose records are others
     module _ (unnamed : IsUnnamed station.named entry) where
@@ -579,22 +613,22 @@ module _ (read : (block : Block) (rest : List ℕ) → CanBeWritten block → bl
           same_rest : after ≡ live.rest → question_in live.rest.asked ≡ Some question
           same_rest f = ap (λ (r : Rest). question_in r.asked) (sym f) ∙ e
 
-          asks_none : (it : Questions station live heard after sent) → ⊥
-          asks_none it =
-              let call_is : plug_call setup request ≡ it.new_call.call =
-              same_call caller it.new_call.caller address it.new_call.address (plug_call setup request) it.new_call.call it.new_call.is in
-              let which_is : it.new_call.which ≡ operation.Write =
-              some_is it.new_call.which operation.Write (sym it.new_call.operation_is
+          asks_none : (asking : Asking) (it : IsForRecord station live heard asking) → ⊥
+          asks_none asking it =
+              let call_is : plug_call setup request ≡ it.call =
+              same_call caller it.caller address it.address (plug_call setup request) it.call it.is in
+              let which_is : it.which ≡ operation.Write =
+              some_is it.which operation.Write (sym it.operation_is
               ∙ (ap (λ (call : Call). operation_of call.header.operation) (sym call_is) ∙ operation_is)) in
-              let blocks_here : it.new_call.blocks ≡ block_bytes (variant.IodWriteReq block) ++ entry.data.items =
-              some_is it.new_call.blocks (plug_blocks setup request request.step)
-              (sym it.new_call.counted ∙ ap (λ (call : Call). call.blocks) (sym call_is)) ∙ blocks_are in
-              question_of_write (uuid_of live.rest.link) it.new_call.caller it.new_call.call it.asking
+              let blocks_here : it.blocks ≡ block_bytes (variant.IodWriteReq block) ++ entry.data.items =
+              some_is it.blocks (plug_blocks setup request request.step)
+              (sym it.counted ∙ ap (λ (call : Call). call.blocks) (sym call_is)) ∙ blocks_are in
+              question_of_write (uuid_of live.rest.link) it.caller it.call asking
               (write_within (uuid_of live.rest.link) (block_bytes (variant.IodWriteReq block) ++ entry.data.items)) refl
-              (subst (λ (blocks : List ℕ). asking_of live.rest.real station.named (uuid_of live.rest.link) it.new_call.caller it.new_call.call blocks operation.Write
-              ≡ Ok (Some it.asking)) blocks_here
-              (subst (λ (which : Operation). asking_of live.rest.real station.named (uuid_of live.rest.link) it.new_call.caller it.new_call.call it.new_call.blocks which
-              ≡ Ok (Some it.asking)) which_is it.new_call.asks))
+              (subst (λ (blocks : List ℕ). asking_of live.rest.real station.named (uuid_of live.rest.link) it.caller it.call blocks operation.Write
+              ≡ Ok (Some asking)) blocks_here
+              (subst (λ (which : Operation). asking_of live.rest.real station.named (uuid_of live.rest.link) it.caller it.call it.blocks which
+              ≡ Ok (Some asking)) which_is it.asks))
 
           by_does : Does station live heard after sent → question_in live.rest.asked ≡ Some question
           by_does (inl it) = same_rest it.same
@@ -602,6 +636,7 @@ module _ (read : (block : Block) (rest : List ℕ) → CanBeWritten block → bl
           by_does (inr (inr (inl it))) = absurd (call_not_confirms (sym (heard_is caller address) ∙ it.confirms none_planned))
           by_does (inr (inr (inr (inl it)))) = same_rest it.same
           by_does (inr (inr (inr (inr (inl it))))) = same_or _ _ it.asked question e
-          by_does (inr (inr (inr (inr (inr (inl it)))))) = absurd (asks_none it)
+          by_does (inr (inr (inr (inr (inr (inl it)))))) = absurd (asks_none it.asking it.new_call)
           by_does (inr (inr (inr (inr (inr (inr (inl it))))))) = ap (λ (r : Rest). question_in r.asked) (sym it.becomes) ∙ e
-          by_does (inr (inr (inr (inr (inr (inr (inr it))))))) = absurd (call_not_idle (sym (heard_is caller address) ∙ it.idle none_planned))
+          by_does (inr (inr (inr (inr (inr (inr (inr (inr it)))))))) = absurd (asks_none (given_way it).asking (given_way it).new_call)
+          by_does (inr (inr (inr (inr (inr (inr (inr (inl it)))))))) = absurd (call_not_idle (sym (heard_is caller address) ∙ it.idle none_planned))

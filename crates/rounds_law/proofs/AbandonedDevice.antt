@@ -41,7 +41,7 @@ use Rattle.device_frames.specs.Sendable.{AreSendable}
 use Rattle.device_frames.specs.Sent.{Sent, bytes_of}
 use Rattle.device_core.specs.State.{Live, Rest, Station}
 use Rattle.device_core.specs.Log.{but_rest, release_log, with_log}
-use Rattle.device_core.specs.Asking.{Asking, asking_of, asking_write, left_asked, released_by, write_within}
+use Rattle.device_core.specs.Asking.{Asking, asking_of, asking_write, is_kept, left_asked, looked_if, released_by, write_within}
 use Rattle.device_core.specs.Handled.{Handled, Moves, Refuses, answer_from, handled_asking, handled_call, handled_looked, handled_new}
 use Rattle.device_core.specs.Handled.{handled_said, handled_write}
 use Rattle.device_core.specs.Handled.{handled_plug_end, is_running, kept_behind, kept_for, partner_of, ready_behind, served}
@@ -211,6 +211,7 @@ released_refused station live caller call blocks none =
 record IsRefusedCall (setup : Setup) (station : Station) (live : Live) (caller : Caller) (request : Request) : Type 0 where
   operation : Operation
   operates : operation_of (operation_in request) ≡ Some operation
+  stored : is_kept station.options operation ≡ true
   refused : IsRefusedAt station live caller (call_for setup request) operation
       (handled_new station live caller (call_for setup request) (blocks_of setup request) operation)
 
@@ -223,16 +224,19 @@ call_refused setup station live caller asks.Connect of none = absurd of
 call_refused setup station live caller (asks.Write number) of none = record {
   operation = Write;
   operates = refl;
+  stored = refl;
   refused = write_refused station live caller (call_for setup (asks.Write number)) (blocks_of setup (asks.Write number)) none;
 }
 call_refused setup station live caller asks.PrmEnd of none = record {
   operation = Control;
   operates = refl;
+  stored = refl;
   refused = ended_refused station live caller (call_for setup asks.PrmEnd) (blocks_of setup asks.PrmEnd) none;
 }
 call_refused setup station live caller (asks.Release sequence) of none = record {
   operation = Release;
   operates = refl;
+  stored = refl;
   refused = released_refused station live caller (call_for setup (asks.Release sequence)) (blocks_of setup (asks.Release sequence)) none;
 }
 
@@ -279,8 +283,10 @@ module _ (setup : Setup) (identity : Identity) (outcomes : List Outcome) (statio
       let sent = answer_from address caller call operation (Err refusal.why) in
       let here = answer_from setup.plan.station.suite.address caller call operation (Err refusal.why) in
       let handles = ap (λ (o : Option Operation). handled_call station live caller call o) found.operates
+      ∙ (ap (λ (kept : Bool). handled_looked station live caller call (blocks_of setup request) operation
+      (looked_if kept setup.activity (sequence_of setup.plan request) live.rest.calls)) found.stored
       ∙ (ap (λ (l : Looked). handled_looked station live caller call (blocks_of setup request) operation l) unheard
-      ∙ (unasked_new station live caller call (blocks_of setup request) operation nothing ∙ refusal.moves)) in
+      ∙ (unasked_new station live caller call (blocks_of setup request) operation nothing ∙ refusal.moves))) in
       let stepped = step_is outcomes station live (request_to setup identity request) caller setup.plan.station.suite.address (Calls call)
       (kept_behind station.identity refusal.rest call sent None) (sent ∷ []) hears reached handles in
       let message : sent ≡ here = ap (λ (a : List ℕ). answer_from a caller call operation (Err refusal.why))

@@ -6,10 +6,11 @@ use Rattle.std.specs.Cmp.Lexicographic.{pointwise, same_text}
 use Rattle.std.specs.Option.{option_map}
 use Rattle.std.proofs.lemmas.Option.{same_Some}
 use Rattle.rpc_core.specs.Cache.{Kept, is_of, kept_more, kept_of, without}
+use Rattle.std.proofs.lemmas.Bool.{false≢true}
 use Rattle.rpc_core.specs.Response.{is_done}
 use Rattle.asked_records.specs.Answers.{unanswered_status}
 use Rattle.asked_records.specs.Asked.{AskedState, Standing, limit, question_in, repeats, settled, waits}
-use Rattle.asked_records.specs.Questions.{operation_of}
+use Rattle.asked_records.specs.Questions.{is_implicit, is_of_relation, operation_of}
 use Rattle.asked_records.specs.declared.question.Request.{Request}
 use Rattle.asked_records.specs.declared.question.Request.TheVariants as request
 use Rattle.asked_records.specs.declared.status.Unanswered.TheVariants.{Late}
@@ -20,7 +21,7 @@ use Rattle.relations.specs.Timers.{due_by, due_of, ending_of}
 use Rattle.asked_records.specs.declared.question.Question.{Question}
 use Rattle.device_core.specs.Asking.{asked_later, ended_by, is_full, late_in, late_sent, left_asked}
 use Rattle.device_core.specs.Handled.{unit_sent}
-use Rattle.device_core.specs.State.{Live}
+use Rattle.device_core.specs.State.{Live, Station}
 use Rattle.controller_messages.specs.declared.setup.Setup.{Setup}
 use Rattle.rounds_law.specs.Anywhere.{IsQuestionOf}
 use Rattle.rounds_law.proofs.AskedUnits.{late_at}
@@ -78,6 +79,23 @@ module _ (setup next : Setup) where
           subst (λ (q : Question). q.header.activity ≡ setup.activity → (q.header.sequence == 0) ≡ false) (same_Some one.question question same)
           (others_one uuid one asks).1
 
+  -- It is no Read Implicit, which is of no relation.
+  plain_of : (own : List ℕ) (asked : Request) → is_of_relation own asked ≡ true → is_implicit asked ≡ true → ⊥
+  plain_of own (request.Read read) of implicit = false≢true implicit
+  plain_of own (request.ReadImplicit read) of implicit = false≢true of
+  plain_of own (request.Write write) of implicit = false≢true implicit
+
+  pub plain_asked : (uuid : Option (List ℕ)) (state : AskedState) (question : Question) → Asks uuid state.standing → question_in state ≡ Some question
+      → is_implicit question.request ≡ true → ⊥
+  plain_asked uuid state question asked is = by_standing uuid state.standing asked is
+    where
+      by_standing : (named : Option (List ℕ)) (standing : Option Standing) → Asks named standing → option_map (λ one. one.question) standing ≡ Some question
+          → is_implicit question.request ≡ true → ⊥
+      by_standing named None asks none = absurd cc
+      by_standing None (Some one) asks same = absurd asks
+      by_standing (Some own) (Some one) asks same =
+          plain_of own question.request (subst (λ (q : Question). is_of_relation own q.request ≡ true) (same_Some one.question question same) asks.0)
+
   -- No call of the next start is a repeat of the one that is asked.
   pub none_repeats : (uuid : Option (List ℕ)) (standing : Option Standing) (sequence : ℕ) → Asks uuid standing → repeats next.activity sequence standing ≡ false
   none_repeats uuid None sequence asked = refl
@@ -123,17 +141,17 @@ module _ (setup next : Setup) where
   late_none count state none = ap (λ (s : Option Standing). late_in count (record { standing = s; last = state.last })) none
 
   -- What is asked is dropped, and not refused.
-  pub ends_quiet : (live : Live) (link : RelationState) (reason : Abort) → live.rest.link ≡ Some link → ending_of link ≡ Some reason
-      → Asks (uuid_of live.rest.link) live.rest.asked.standing → late_at live ≡ []
-  ends_quiet live link reason has ends asks =
+  pub ends_quiet : (station : Station) (live : Live) (link : RelationState) (reason : Abort) → live.rest.link ≡ Some link → ending_of link ≡ Some reason
+      → Asks (uuid_of live.rest.link) live.rest.asked.standing → late_at station live ≡ []
+  ends_quiet station live link reason has ends asks =
       let address = live.values.running.suite.address in
       let count = length (unit_sent live) in
       let asked = live.rest.asked in
       let left = left_asked (Some link.request.ar.uuid) asked in
       let of_link = subst (λ (l : Option RelationState). Asks (uuid_of l) asked.standing) has asks in
-      ap (λ (l : Option RelationState). late_sent address (late_in count (left_asked (ended_by (due_of l).farewell) asked)) live.rest.calls) has
-      ∙ (ap (λ (e : Option Abort). late_sent address (late_in count (left_asked (ended_by (due_by link e).farewell) asked)) live.rest.calls) ends
-      ∙ ap (λ (question : Option Question). late_sent address question live.rest.calls)
+      ap (λ (l : Option RelationState). late_sent station.options address (late_in count (left_asked (ended_by (due_of l).farewell) asked)) live.rest.calls) has
+      ∙ (ap (λ (e : Option Abort). late_sent station.options address (late_in count (left_asked (ended_by (due_by link e).farewell) asked)) live.rest.calls) ends
+      ∙ ap (λ (question : Option Question). late_sent station.options address question live.rest.calls)
       (late_none count left (left_none (Some link.request.ar.uuid) asked.standing asked.last of_link)))
 
 -- It is not of this start, nor of a later one.

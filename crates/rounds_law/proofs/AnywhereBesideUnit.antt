@@ -117,7 +117,7 @@ module _ (laws : UnitLaws) (setup : Setup) (identity : Identity) where
         let counter = counter_of (units_after 1 live.rest.units) in
         let sends = unit_sends outcomes station live link (Some reason) has is
         ∙ ap (λ (late : List Sent). due_frames address counter (due_by link (Some reason)) None ++ late)
-        (ends_quiet before setup live link reason has is asked) in
+        (ends_quiet before setup station live link reason has is asked) in
         record {
           said = subst (AllByRecursion IsSaid) (sym sends) (tt, tt);
           values = unit_values outcomes station live;
@@ -126,7 +126,7 @@ module _ (laws : UnitLaws) (setup : Setup) (identity : Identity) where
     passes_by None is =
         record {
           said = subst (AllByRecursion IsSaid) (sym (unit_sends outcomes station live link None has is))
-              (all_both _ (late_at live) due_said (late_said (late_at live) _ (late_of station live)));
+              (all_both _ (late_at station live) due_said (late_said (late_at station live) _ (late_of station live)));
           values = unit_values outcomes station live;
           over = λ none. absurd (still (sym none ∙ unit_link outcomes station live link None has is));
         }

@@ -48,7 +48,7 @@ use Rattle.device_core.specs.State.{Live, Station}
 use Rattle.device_core.specs.Modules.{next_call_sent}
 use Rattle.device_core.specs.Log.{but_rest, connect_log, release_log, with_log}
 use Rattle.asked_records.specs.Asked.{is_repeat}
-use Rattle.device_core.specs.Asking.{Asking as Question, asking_of, left_asked, released_by}
+use Rattle.device_core.specs.Asking.{Asking as Question, asking_of, is_kept, left_asked, looked_if, released_by}
 use Rattle.device_core.specs.Handled.{Handled, Moves, counted_by, handled_asking, handled_blocks, handled_call, handled_effect, handled_looked}
 use Rattle.device_core.specs.Handled.{handled_new, handled_unanswered, handled_plug_end, handled_said, handled_write, kept_answer}
 use Rattle.device_core.specs.Handled.{number_now, partner_of, ready_behind, served, starting_of}
@@ -381,12 +381,13 @@ module _ (setup next : Setup) (identity : Identity) (silence : ℕ) (station : S
       (plug_write_blocks setup request (slice_get setup.plan.records.items number)) Write) before.of_plan.plugged
       ∙ laws.plug_unasked request of number step (uuid_of live.rest.link) caller (plug_call setup request)
 
-  plug_no : (live : Live) → IsAnyDevice setup next identity silence station live → (request : PlugRequest) (operation : Operation) (refusal : CallFault)
+  plug_no : (live : Live) → IsAnyDevice setup next identity silence station live → (request : PlugRequest) (operation : Operation)
+      → is_kept station.options operation ≡ true → (refusal : CallFault)
       → Fine live (served station live caller (plug_call setup request) operation (Err refusal) live.rest.link [])
-  plug_no live before request operation refusal =
-      served_move setup next identity silence station laws live before
+  plug_no live before request operation kept refusal = rw kept
+      (served_move setup next identity silence station laws live before
       live.rest refl (plug_call setup request) refl live.values.running.suite.address operation (Err refusal)
-      (fit_no setup next identity silence station laws (plug_call setup request) operation refusal) live.rest.link before.lasts before.asked [] tt
+      (fit_no setup next identity silence station laws (plug_call setup request) operation refusal) live.rest.link before.lasts before.asked [] tt)
 
   plug_kept : (live : Live) → IsAnyDevice setup next identity silence station live → (request : PlugRequest) (header : IodWriteReq)
       → chosen_in (answer_of header) ≡ None → (records : Records)
@@ -493,12 +494,14 @@ module _ (setup next : Setup) (identity : Identity) (silence : ℕ) (station : S
       by_kept (Some kept) e = by_number kept e (call.header.sequence == kept.sequence) (nat_lt call.header.sequence kept.sequence)
 
   said_fine : (live : Live) (call : Call) (operation : Operation) (blocks : List ℕ) → call.blocks ≡ Some blocks
-      → operation_of call.header.operation ≡ Some operation
+      → operation_of call.header.operation ≡ Some operation → is_kept station.options operation ≡ true
       → Fine live (handled_looked station live caller call blocks operation (looked call.header.activity call.header.sequence live.rest.calls))
       → Fine live (handled_said station live caller (Calls call))
-  said_fine live call operation blocks counted is fine =
+  said_fine live call operation blocks counted is kept fine =
       subst (λ (o : Option Operation). Fine live (handled_call station live caller call o)) (sym is)
-      (subst (λ (o : Option (List ℕ)). Fine live (handled_blocks station live caller call operation o)) (sym counted) fine)
+      (subst (λ (o : Option (List ℕ)). Fine live (handled_blocks station live caller call operation o)) (sym counted)
+      (subst (λ (b : Bool). Fine live (handled_looked station live caller call blocks operation
+      (looked_if b call.header.activity call.header.sequence live.rest.calls))) (sym kept) fine))
 
   is_release : operation_of 1 ≡ Some Release
   unfolding operation_of
@@ -518,26 +521,26 @@ module _ (setup next : Setup) (identity : Identity) (silence : ℕ) (station : S
       → Fine live (handled_said station live caller (Calls (call_for setup asks.Connect)))
   connect_said live before =
       let call = call_for setup asks.Connect in
-      said_fine live call Connect (blocks_of setup asks.Connect) refl is_connect
+      said_fine live call Connect (blocks_of setup asks.Connect) refl is_connect refl
       (looked_fine live before call refl (blocks_of setup asks.Connect) Connect (connect_fine live before))
 
   pub write_said : (live : Live) → IsAnyDevice setup next identity silence station live → (number : ℕ) → number < 65536
       → Fine live (handled_said station live caller (Calls (call_for setup (asks.Write number))))
   write_said live before number small =
       let call = call_for setup (asks.Write number) in
-      said_fine live call Write (blocks_of setup (asks.Write number)) refl is_write
+      said_fine live call Write (blocks_of setup (asks.Write number)) refl is_write refl
       (looked_fine live before call refl (blocks_of setup (asks.Write number)) Write (write_fine live before number small))
 
   pub prm_end_said : (live : Live) → IsAnyDevice setup next identity silence station live
       → Fine live (handled_said station live caller (Calls (call_for setup asks.PrmEnd)))
   prm_end_said live before =
       let call = call_for setup asks.PrmEnd in
-      said_fine live call Control (blocks_of setup asks.PrmEnd) refl is_control
+      said_fine live call Control (blocks_of setup asks.PrmEnd) refl is_control refl
       (looked_fine live before call refl (blocks_of setup asks.PrmEnd) Control (control_fine live before))
 
   pub release_said : (live : Live) → IsAnyDevice setup next identity silence station live → (sequence : ℕ)
       → Fine live (handled_said station live caller (Calls (call_for setup (asks.Release sequence))))
   release_said live before sequence =
       let call = call_for setup (asks.Release sequence) in
-      said_fine live call Release (blocks_of setup (asks.Release sequence)) refl is_release
+      said_fine live call Release (blocks_of setup (asks.Release sequence)) refl is_release refl
       (looked_fine live before call refl (blocks_of setup (asks.Release sequence)) Release (release_fine live before sequence))

@@ -56,7 +56,7 @@ use Rattle.device_frames.specs.declared.note.Note.TheVariants as note
 use Rattle.device_core.specs.Handled.{Handled, Refuses, goes_on_with, handled_alarm, handled_answer, handled_beginning, handled_cyclic, handled_low}
 use Rattle.device_core.specs.Handled.{handled_low_confirm, handled_low_message, handled_next_call, handled_plug_answer, handled_response}
 use Rattle.device_core.specs.Handled.{handled_low_pdu, handled_low_reply, handled_message, handled_pdu, handled_received, ticked, unit_sent}
-use Rattle.device_core.specs.Asking.{kept_reply, late_reply}
+use Rattle.device_core.specs.Asking.{kept_reply, refused_reply}
 use Rattle.controller_messages.specs.declared.setup.Setup.{Setup}
 use Rattle.end_laws.specs.device.Orderly.{IsNumberedCall}
 use Rattle.rounds_law.specs.Anywhere.{AllLast, IsAnyDevice, IsQuestionOf, Lasts}
@@ -448,9 +448,11 @@ module _ (setup next : Setup) (identity : Identity) (silence : ℕ) (station : S
       → AreSendable station.identity sent → IsStored setup next identity silence station stored
   stored_late laws live before sent stored (inl (none, same)) can =
       subst (IsStored setup next identity silence station) (sym same) (stored_before setup next identity silence station live before)
-  stored_late laws live before sent stored (inr (one, asked, is, kept)) can =
+  stored_late laws live before sent stored (inr (one, asked, is, inr same)) can =
+      subst (IsStored setup next identity silence station) (sym same) (stored_before setup next identity silence station live before)
+  stored_late laws live before sent stored (inr (one, asked, is, inl kept)) can =
       let answer = answer_to (call_of one.question) (unanswered_status (operation_of one.question.request) is_late) [] in
-      let reply = late_reply live.values.running.suite.address one.question in
+      let reply = refused_reply live.values.running.suite.address is_late one.question in
       subst (IsStored setup next identity silence station) (sym kept)
       (late_stored setup next identity silence station laws.says laws.good laws.device laws.ignored
       (kept_reply station.identity one.question reply) one.question.caller live.values.running.suite.address answer live.rest.calls refl refl
@@ -466,9 +468,9 @@ module _ (setup next : Setup) (identity : Identity) (silence : ℕ) (station : S
       let lasts = passed_all live.rest.link before.lasts in
       let late = late_of station live in (
         lasts,
-        λ can. stored_late laws live before (late_at live) _ late (all_right station.identity (unit_sent live) (late_at live) can),
-        both_fit setup (unit_sent live) (late_at live)
+        λ can. stored_late laws live before (late_at station live) _ late (all_right station.identity (unit_sent live) (late_at station live) can),
+        both_fit setup (unit_sent live) (late_at station live)
             (unit_fit setup silence address (counter_of (units_after 1 live.rest.units)) (due_of live.rest.link) link lasts)
-            (fit_late live (late_at live) _ late),
+            (fit_late live (late_at station live) _ late),
         unit_asked setup next count live.rest.link live.rest.asked before.asked,
       )

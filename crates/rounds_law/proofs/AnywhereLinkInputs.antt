@@ -160,7 +160,7 @@ module _ (outcomes : List Outcome) (station : Station) (live : Live) (link : Rel
   pub unit_of_link : live.rest.link ≡ Some link → AreOfLink link.flow.cyclic.route (heard_step outcomes station live Ticks).sent
   unit_of_link has =
       subst (AreOfLink link.flow.cyclic.route) (sym (unit_sends outcomes station live link (ending_of link) has refl))
-      (all_both link.flow.cyclic.route _ (late_at live) (unit_by (ending_of link)) (late_of_link (late_at live) _ (late_of station live)))
+      (all_both link.flow.cyclic.route _ (late_at station live) (unit_by (ending_of link)) (late_of_link (late_at station live) _ (late_of station live)))
 
 -- ---- the parts
 

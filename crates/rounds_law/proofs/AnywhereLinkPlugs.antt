@@ -141,7 +141,7 @@ module _ (setup next : Setup) (identity : Identity) (silence : ℕ) (station : S
         refuses = λ why. none;
         silent = none;
         repeats = λ kept found. none;
-        denies = λ operation refusal. none;
+        denies = λ operation kept refusal. none;
         keeps = λ header unchosen parameter records e. absurd (none_kept parameter records e);
         ends = λ one e told. absurd (none_told told);
       }
@@ -260,7 +260,7 @@ module _ (setup next : Setup) (identity : Identity) (silence : ℕ) (station : S
         refuses = λ why. stays;
         silent = stays;
         repeats = λ kept found. stays;
-        denies = λ operation refusal. stays;
+        denies = λ operation kept refusal. stays;
         keeps = λ header unchosen parameter records e.
             subst (λ (l : Option RelationState). IsNow setup route link (updated (Named (partner_of caller)) (updated (Took records) l))) (sym has)
             (keeps_so (partner_of caller) parameter records
@@ -308,7 +308,7 @@ module _ (setup next : Setup) (identity : Identity) (silence : ℕ) (station : S
       refuses = λ why. tt;
       silent = tt;
       repeats = λ kept found. (before.answers of.keyed kept found, tt);
-      denies = λ operation refusal. (tt, tt);
+      denies = λ operation kept refusal. (tt, tt);
       keeps = λ header unchosen parameter records e. (tt, tt);
       ends = λ one e told.
           let named = updated (Named (partner_of caller)) (plug_ended_by station.options.ready_by_application (Ok one) live.rest.link) in (

@@ -32,7 +32,7 @@ use Rattle.device_frames.specs.declared.note.Note.{Note}
 use Rattle.device_frames.specs.Heard.{Calls}
 use Rattle.device_frames.specs.Sent.{Again}
 use Rattle.device_core.specs.State.{Live, Station}
-use Rattle.device_core.specs.Asking.{Asking as Question, asking_of}
+use Rattle.device_core.specs.Asking.{Asking as Question, asking_of, is_kept, looked_if}
 use Rattle.device_core.specs.Handled.{Handled, Moves, Refuses, handled_asking, handled_call, handled_effect, handled_looked, handled_new}
 use Rattle.device_core.specs.Handled.{handled_said, handled_unanswered, handled_write, kept_answer, partner_of, ready_behind, served}
 use Rattle.device_core.specs.Modules.{call_after, calling_after}
@@ -76,7 +76,7 @@ module _ (setup : Setup) (station : Station) (live : Live) (caller : Caller) (re
     pub refuses : (why : Note) → P (Refuses why)
     pub silent : P (Moves live.rest [])
     pub repeats : (kept : Kept) → kept_of setup.activity live.rest.calls ≡ Some kept → P (Moves live.rest (Again kept.frame ∷ []))
-    pub denies : (operation : Operation) (refusal : CallFault) → P (served station live caller (plug_call setup request) operation (Err refusal) live.rest.link [])
+    pub denies : (operation : Operation) → is_kept station.options operation ≡ true → (refusal : CallFault) → P (served station live caller (plug_call setup request) operation (Err refusal) live.rest.link [])
     pub keeps : (header : IodWriteReq) → chosen_in (answer_of header) ≡ None → (parameter : TakenRecord) (records : Records)
         → keeping parameter live.rest.link ≡ Ok records
         → P (served station live caller (plug_call setup request) Write (Ok (answer_of header))
@@ -93,10 +93,10 @@ module _ (setup : Setup) (station : Station) (live : Live) (caller : Caller) (re
         → P (served station live caller call Write (kept_answer header kept)
         (updated (answered (Named (partner_of caller)) kept) (updated (taking kept) live.rest.link)) [])
     kept_so header none parameter (Ok records) e = walks.keeps header none parameter records e
-    kept_so header none parameter (Err refusal) e = walks.denies Write refusal
+    kept_so header none parameter (Err refusal) e = walks.denies Write refl refusal
 
     writing_so : (writing : Result Writing CallFault) → IsPlain writing → P (handled_write station live caller call writing)
-    writing_so (Err refusal) plain_so = walks.denies Write refusal
+    writing_so (Err refusal) plain_so = walks.denies Write refl refusal
     writing_so (Ok (One write)) plain_so =
         subst (λ (effect : Effect). P (handled_effect station live caller call write.request effect)) (sym plain_so.1)
         (kept_so write.request plain_so.2 plain_so.0 (keeping plain_so.0 live.rest.link) refl)
@@ -111,7 +111,7 @@ module _ (setup : Setup) (station : Station) (live : Live) (caller : Caller) (re
     ended_so : is_plug_control end_blocks live.rest.link ≡ true → (ended : Result PlugControlBlock CallFault) → plug_end_in end_blocks live.rest.link ≡ ended
         → P (ends_by ended)
     ended_so told (Ok one) e = walks.ends one e told
-    ended_so told (Err refusal) e = walks.denies Control refusal
+    ended_so told (Err refusal) e = walks.denies Control refl refusal
 
     abbrev parameters_by : Result ControlBlock CallFault → Handled
     parameters_by ended =
@@ -125,7 +125,7 @@ module _ (setup : Setup) (station : Station) (live : Live) (caller : Caller) (re
         let refused = plug_end_refused live.rest.link (plug_end setup request.number) in
         cond_both (is_plug_control end_blocks live.rest.link) _ _ P
         (λ told. ended_so told (plug_end_in end_blocks live.rest.link) refl)
-        (λ told. subst (λ (ended : Result ControlBlock CallFault). P (parameters_by ended)) (sym refused.1) (walks.denies Control refused.0))
+        (λ told. subst (λ (ended : Result ControlBlock CallFault). P (parameters_by ended)) (sym refused.1) (walks.denies Control refl refused.0))
 
     looked_so : (blocks : List ℕ) (operation : Operation) → P (handled_new station live caller call blocks operation)
         → P (handled_looked station live caller call blocks operation (looked setup.activity request.sequence live.rest.calls))
@@ -149,11 +149,13 @@ module _ (setup : Setup) (station : Station) (live : Live) (caller : Caller) (re
         by_kept None e = unanswered
         by_kept (Some kept) e = by_number kept e (request.sequence == kept.sequence) (nat_lt request.sequence kept.sequence)
 
-    said_so : (operation : Operation) → operation_of call.header.operation ≡ Some operation
+    said_so : (operation : Operation) → operation_of call.header.operation ≡ Some operation → is_kept station.options operation ≡ true
         → P (handled_looked station live caller call (plug_blocks setup request request.step) operation (looked setup.activity request.sequence live.rest.calls))
         → P (handled_said station live caller (Calls call))
-    said_so operation names fine =
-        subst (λ (o : Option Operation). P (handled_call station live caller call o)) (sym names) fine
+    said_so operation names kept fine =
+        subst (λ (o : Option Operation). P (handled_call station live caller call o)) (sym names)
+        (subst (λ (b : Bool). P (handled_looked station live caller call (plug_blocks setup request request.step) operation
+        (looked_if b setup.activity request.sequence live.rest.calls))) (sym kept) fine)
 
     blocks_are : (step : PlugStep) → request.step ≡ step → plug_blocks setup request step ≡ plug_blocks setup request request.step
     blocks_are step e = ap (λ (s : PlugStep). plug_blocks setup request s) (sym e)
@@ -164,10 +166,10 @@ module _ (setup : Setup) (station : Station) (live : Live) (caller : Caller) (re
       where
         by_step : (step : PlugStep) → request.step ≡ step → P (handled_said station live caller (Calls call))
         by_step (Record number) e =
-            said_so Write (ap (λ (s : PlugStep). operation_of (plug_operation s)) e ∙ is_write)
+            said_so Write (ap (λ (s : PlugStep). operation_of (plug_operation s)) e ∙ is_write) refl
             (looked_so (plug_blocks setup request request.step) Write
             (subst (λ (b : List ℕ). P (handled_new station live caller call b Write)) (blocks_are (Record number) e) (new_write number e)))
         by_step PrmEnd e =
-            said_so Control (ap (λ (s : PlugStep). operation_of (plug_operation s)) e ∙ is_control)
+            said_so Control (ap (λ (s : PlugStep). operation_of (plug_operation s)) e ∙ is_control) refl
             (looked_so (plug_blocks setup request request.step) Control
             (subst (λ (b : List ℕ). P (handled_new station live caller call b Control)) (blocks_are PrmEnd e) new_end))

@@ -36,7 +36,7 @@ use Rattle.relations.specs.declared.ready.Ready.{Ready}
 use Rattle.device_frames.specs.Heard.{Calls, Heard, Reported}
 use Rattle.device_frames.specs.Sent.{Again, CallAnswer, Exchanges, PlugReadyCall, ReadyCall, Sent, bytes_of}
 use Rattle.asked_records.specs.Asked.{question_in}
-use Rattle.asked_records.specs.Questions.{call_of}
+use Rattle.asked_records.specs.Questions.{call_of, is_implicit}
 use Rattle.asked_records.specs.declared.question.Question.{Question}
 use Rattle.rpc_core.specs.declared.response.Status.{Status}
 use Rattle.device_core.specs.State.{Live, Rest, Station}
@@ -341,14 +341,15 @@ module _ (setup : Setup) (Holds : Chosen → Type 0) (silence : ℕ) (station : 
       → Releases heard sent → Plugs heard sent
       → ((question : Question) → question_in live.rest.asked ≡ Some question → question.header.activity ≡ setup.activity
       → (question.header.sequence == 0) ≡ false)
+      → ((question : Question) → question_in live.rest.asked ≡ Some question → is_implicit question.request ≡ true → ⊥)
       → AllByRecursion IsSizedIfPlug sent → Does station live heard after sent → Went after sent
-  turn_says heard after sent lasts known stored releases plugs others sized (inl it) =
+  turn_says heard after sent lasts known stored releases plugs others plain sized (inl it) =
       (subst (AllByRecursion Saying) (sym it.silent) tt, same_stored after.calls sent (ap (λ (r : Rest). r.calls) it.same))
-  turn_says heard after sent lasts known stored releases plugs others sized (inr (inl it)) =
+  turn_says heard after sent lasts known stored releases plugs others plain sized (inr (inl it)) =
       (others_say after.link sent lasts it.others sized, same_stored after.calls sent it.calls)
-  turn_says heard after sent lasts known stored releases plugs others sized (inr (inr (inl it))) =
+  turn_says heard after sent lasts known stored releases plugs others plain sized (inr (inr (inl it))) =
       (exchange_says sent it.others, same_stored after.calls sent (ap (λ (r : Rest). r.calls) it.becomes))
-  turn_says heard after sent lasts known stored releases plugs others sized (inr (inr (inr (inl it)))) = (
+  turn_says heard after sent lasts known stored releases plugs others plain sized (inr (inr (inr (inl it)))) = (
     subst (AllByRecursion Saying) (sym it.sends) (
       stored it.kept (subst (λ (activity : List ℕ). kept_of activity live.rest.calls ≡ Some it.kept)
           (repeats_activity heard it.caller it.address it.call known it.is) it.there),
@@ -356,10 +357,12 @@ module _ (setup : Setup) (Holds : Chosen → Type 0) (silence : ℕ) (station : 
     ),
     same_stored after.calls sent (ap (λ (r : Rest). r.calls) it.same),
   )
-  turn_says heard after sent lasts known stored releases plugs others sized (inr (inr (inr (inr (inl it))))) =
+  turn_says heard after sent lasts known stored releases plugs others plain sized (inr (inr (inr (inr (inl it))))) =
       served heard after sent lasts known releases plugs sized it
-  turn_says heard after sent lasts known stored releases plugs others sized (inr (inr (inr (inr (inr (inl it)))))) =
+  turn_says heard after sent lasts known stored releases plugs others plain sized (inr (inr (inr (inr (inr (inl it)))))) =
       (subst (AllByRecursion Saying) (sym it.silent) tt, same_stored after.calls sent (ap (λ (r : Rest). r.calls) it.becomes))
-  turn_says heard after sent lasts known stored releases plugs others sized (inr (inr (inr (inr (inr (inr (inl it))))))) = declined heard after sent it
-  turn_says heard after sent lasts known stored releases plugs others sized (inr (inr (inr (inr (inr (inr (inr it))))))) =
+  turn_says heard after sent lasts known stored releases plugs others plain sized (inr (inr (inr (inr (inr (inr (inl it))))))) = declined heard after sent it
+  turn_says heard after sent lasts known stored releases plugs others plain sized (inr (inr (inr (inr (inr (inr (inr (inr it)))))))) =
+      absurd (plain it.question it.asked it.implicit)
+  turn_says heard after sent lasts known stored releases plugs others plain sized (inr (inr (inr (inr (inr (inr (inr (inl it)))))))) =
       replied heard after sent lasts others sized it

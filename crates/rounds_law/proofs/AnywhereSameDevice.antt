@@ -7,6 +7,7 @@ use Rattle.settings_journal.specs.settings_store.Machine.{Outcome}
 use Rattle.connect_blocks.specs.ArBlock.{is_some_uuid}
 use Rattle.rpc_core.specs.Cache.{Kept, kept_of}
 use Rattle.asked_records.specs.Asked.{question_in}
+use Rattle.asked_records.specs.Questions.{is_implicit}
 use Rattle.asked_records.specs.declared.question.Question.{Question}
 use Rattle.relations.specs.RelationState.{uuid_of}
 use Rattle.frame_codec.specs.declared.udp.Caller.{Caller}
@@ -39,7 +40,7 @@ use Rattle.rounds_law.proofs.AnywhereDeviceAnswers.{CallLaws}
 use Rattle.rounds_law.proofs.AnywhereDeviceHears.{IsHeardAs, message_heard, message_said}
 use Rattle.rounds_law.proofs.AnywhereDeviceLaw.{AreSizedPlugs, DeviceLaws, calls, frame_sized, unit_sized}
 use Rattle.rounds_law.proofs.AnywhereParts.{Hears, IsLong}
-use Rattle.rounds_law.proofs.AnywhereAsked.{not_connect}
+use Rattle.rounds_law.proofs.AnywhereAsked.{not_connect, plain_asked}
 use Rattle.rounds_law.proofs.AnywhereSameAnswers.{AnswersLaws, IsStoredFrom, turn_says}
 use Rattle.rounds_law.proofs.AnywhereControllerLaws.{ControllerLaws}
 use Rattle.rounds_law.proofs.AnywhereSameHears.{IsKnown, message_known, rules_for, unit_known}
@@ -126,13 +127,16 @@ module _ {F : Type 0} {S : ℕ} (as_flash : Flash F S) (setup next : Setup) (ide
           → (question.header.sequence == 0) ≡ false
       replies question is = not_connect setup next (uuid_of before.live.rest.link) before.live.rest.asked question any.asked is
 
+      plain : (question : Question) → question_in before.live.rest.asked ≡ Some question → is_implicit question.request ≡ true → ⊥
+      plain question is = plain_asked setup next (uuid_of before.live.rest.link) before.live.rest.asked question any.asked is
+
       device : IsDevice before.station.identity
       device = subst IsDevice (sym any.of_device) long.of_device
 
       all_sent : AllByRecursion (ChoosesIn setup Holds) (map (bytes_of before.station.identity) sent)
       all_sent =
           all_say laws.device.says laws.packets setup Holds before.station.identity long.real device sent
-          (turn_says setup Holds silence before.station before.live answers heard rest sent any.lasts known.1 stored releases plug_calls replies plugs turn.does).0
+          (turn_says setup Holds silence before.station before.live answers heard rest sent any.lasts known.1 stored releases plug_calls replies plain plugs turn.does).0
           goes.steps.sendable
 
       middle : (front : List Sent) (message : Sent) (others : List Sent)
@@ -153,7 +157,7 @@ module _ {F : Type 0} {S : ℕ} (as_flash : Flash F S) (setup next : Setup) (ide
           (subst (λ (messages : List Sent). AllByRecursion (ChoosesIn setup Holds) (map (bytes_of before.station.identity) messages)) new.3 all_sent))
 
       went : AllByRecursion (IsSaying setup Holds) sent × IsStoredFrom setup Holds silence before.station before.live answers rest.calls sent
-      went = turn_says setup Holds silence before.station before.live answers heard rest sent any.lasts known.1 stored releases plug_calls replies plugs turn.does
+      went = turn_says setup Holds silence before.station before.live answers heard rest sent any.lasts known.1 stored releases plug_calls replies plain plugs turn.does
 
       -- What it stores and sends.
       stays_chosen : StoresChosen setup Holds after.live × AllByRecursion (ChoosesIn setup Holds) frames

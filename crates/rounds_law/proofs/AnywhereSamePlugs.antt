@@ -76,7 +76,7 @@ module _ (setup next : Setup) (identity : Identity) (silence : ℕ) (station : S
     refuses = λ why. tt;
     silent = tt;
     repeats = λ kept found. (tt, tt);
-    denies = λ operation refusal.
+    denies = λ operation kept refusal.
         (none_of (answer_to (plug_call setup request) (status_of operation refusal) []) (inl (laws.negative operation refusal)), tt);
     keeps = λ header unchosen parameter records e. (none_of (answer_to (plug_call setup request) done (answer_of header)) (inr unchosen), tt);
     ends = λ one e told. ends_unchosen (end_blocks setup station live caller request) one e;

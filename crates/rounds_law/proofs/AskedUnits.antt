@@ -11,7 +11,11 @@ use Rattle.rpc_core.specs.Call.{Asked as Call}
 use Rattle.records.specs.declared.status.operation.Operation.{Operation}
 use Rattle.settings_journal.specs.settings_store.Machine.{Outcome}
 use Rattle.asked_records.specs.Asked.{AskedState, Standing, is_of, is_over, is_repeat, repeats, settled}
+use Rattle.asked_records.specs.Questions.{operation_of}
 use Rattle.asked_records.specs.declared.question.Question.{Question}
+use Rattle.asked_records.specs.declared.status.Unanswered.TheVariants.{Late}
+use Rattle.relations.specs.declared.options.DeviceOptions.{DeviceOptions}
+use Rattle.pn_values.specs.IpSuite.{is_zero}
 use Rattle.pn_alarms.specs.declared.abort.Abort.{Abort}
 use Rattle.relations.specs.Phases.{passing, passing_by, updated}
 use Rattle.relations.specs.RelationState.{RelationState}
@@ -20,7 +24,7 @@ use Rattle.device_frames.specs.Heard.{Ticks}
 use Rattle.device_frames.specs.Relation.{due_frames, where_due}
 use Rattle.device_frames.specs.Sent.{Sent}
 use Rattle.device_core.specs.State.{Live, Station, counter_of, units_after}
-use Rattle.device_core.specs.Asking.{asked_later, is_full, is_new, kept_reply, late_calls, late_in, late_reply, late_sent, left_asked}
+use Rattle.device_core.specs.Asking.{asked_later, calls_after, is_full, is_kept, is_new, kept_reply, late_calls, late_in, late_sent, left_asked, question_replies, refused_reply}
 use Rattle.device_core.specs.Handled.{Handled, Moves, counted_sent, handled_new, handled_unanswered, ticked, unit_rest, unit_sent}
 use Rattle.device_core.specs.Log.{err_log, with_log}
 use Rattle.device_core.specs.Machine.{Stepped, handled_step, heard_step}
@@ -87,8 +91,8 @@ quiet_unit station live nothing =
     let by = option_map (λ farewell. farewell.uuid) (due_of live.rest.link).farewell in
     let late = none_late live.rest.asked.standing live.rest.asked.last count by nothing in
     ap (λ (question : Option Question). Moves
-    (record before { asked = asked_later count before.asked; calls = late_calls station.identity address question before.calls })
-    (sent ++ late_sent address question before.calls)) late
+    (record before { asked = asked_later count before.asked; calls = late_calls station.options station.identity address question before.calls })
+    (sent ++ late_sent station.options address question before.calls)) late
     ∙ (ap (λ (asked : AskedState). Moves (record before { asked = asked }) (sent ++ []))
     (still_asked live.rest.asked.standing live.rest.asked.last count by nothing)
     ∙ ap (λ (messages : List Sent). Moves (record before { asked = live.rest.asked }) messages) (append-nil sent))
@@ -118,56 +122,69 @@ unit_link outcomes station live link reason has ending =
     ap (λ (l : Option RelationState). updated (passing l) l) has ∙ ap (λ (e : Option Abort). updated (passing_by e) (Some link)) ending
 
 -- What is sent for a call that had no answer in time.
-abbrev pub late_at : Live → List Sent
-late_at live = counted_sent live.values.running.suite.address (length (unit_sent live)) (unit_rest live)
+abbrev pub late_at : Station → Live → List Sent
+late_at station live = counted_sent station live.values.running.suite.address (length (unit_sent live)) (unit_rest live)
 
 pub unit_sends : (outcomes : List Outcome) (station : Station) (live : Live) (link : RelationState) (reason : Option Abort)
     → live.rest.link ≡ Some link → ending_of link ≡ reason
     → (heard_step outcomes station live Ticks).sent
     ≡ due_frames live.values.running.suite.address (counter_of (units_after 1 live.rest.units)) (due_by link reason) (updated (passing_by reason) (Some link))
-    ++ late_at live
+    ++ late_at station live
 unfolding heard_step handled_step
 unit_sends outcomes station live link reason has ending =
     let address = live.values.running.suite.address in
     let counter = counter_of (units_after 1 live.rest.units) in
-    ap (λ (l : Option RelationState). due_frames address counter (due_of l) (updated (passing l) l) ++ late_at live) has
-    ∙ ap (λ (e : Option Abort). due_frames address counter (due_by link e) (updated (passing_by e) (Some link)) ++ late_at live) ending
+    ap (λ (l : Option RelationState). due_frames address counter (due_of l) (updated (passing l) l) ++ late_at station live) has
+    ∙ ap (λ (e : Option Abort). due_frames address counter (due_by link e) (updated (passing_by e) (Some link)) ++ late_at station live) ending
 
 -- ---- a call that had no answer in time
 
--- Nothing is sent and stored, or the refusal of the call that was asked.
+-- Nothing is sent and stored, or the refusal of the call that was asked is sent, and stored or not.
 abbrev pub IsLate : Identity → List ℕ → Option Standing → List Kept → List Sent → List Kept → Type 0
 IsLate identity address standing calls sent stored =
     ((sent ≡ []) × (stored ≡ calls))
-    ⊎ ((one : Standing) × (standing ≡ Some one) × (sent ≡ late_reply address one.question ∷ [])
-    × (stored ≡ kept_more 4 (kept_reply identity one.question (late_reply address one.question)) calls))
+    ⊎ ((one : Standing) × (standing ≡ Some one) × (sent ≡ refused_reply address Late one.question ∷ [])
+    × ((stored ≡ kept_more 4 (kept_reply identity one.question (refused_reply address Late one.question)) calls) ⊎ (stored ≡ calls)))
 
-module _ (identity : Identity) (address : List ℕ) (calls : List Kept) where
+module _ (options : DeviceOptions) (identity : Identity) (address : List ℕ) (calls : List Kept) where
   by_cache : (one : Standing) (found : Looked)
-      → IsLate identity address (Some one) calls (where_due (is_new found) (late_reply address one.question ∷ []))
-      (behind_reported 4 (kept_reply identity one.question (late_reply address one.question)) calls found)
-  by_cache one new = inr (one, refl, refl, refl)
+      → IsLate identity address (Some one) calls (where_due (is_new found) (refused_reply address Late one.question ∷ []))
+      (behind_reported 4 (kept_reply identity one.question (refused_reply address Late one.question)) calls found)
+  by_cache one new = inr (one, refl, refl, inl refl)
   by_cache one (again frame) = inl (refl, refl)
   by_cache one old = inl (refl, refl)
 
+  by_stored : (one : Standing) (kept : Bool)
+      → IsLate identity address (Some one) calls (question_replies kept one.question (refused_reply address Late one.question) calls)
+      (calls_after kept identity one.question (refused_reply address Late one.question) calls)
+  by_stored one true = by_cache one (looked one.question.header.activity one.question.header.sequence calls)
+  by_stored one false = inr (one, refl, refl, inr refl)
+
+  -- it is dropped if the device has no IP address any more
+  by_address : (one : Standing) (kept zero : Bool)
+      → IsLate identity address (Some one) calls (if zero then [] else question_replies kept one.question (refused_reply address Late one.question) calls)
+      (if zero then calls else calls_after kept identity one.question (refused_reply address Late one.question) calls)
+  by_address one kept true = inl (refl, refl)
+  by_address one kept false = by_stored one kept
+
   by_test : (one : Standing) (is : Bool)
       → IsLate identity address (Some one) calls
-      (late_sent address (if is then Some one.question else None) calls) (late_calls identity address (if is then Some one.question else None) calls)
-  by_test one true = by_cache one (looked one.question.header.activity one.question.header.sequence calls)
+      (late_sent options address (if is then Some one.question else None) calls) (late_calls options identity address (if is then Some one.question else None) calls)
+  by_test one true = by_address one (is_kept options (operation_of one.question.request)) (is_zero address)
   by_test one false = inl (refl, refl)
 
   by_end : (one : Standing) (last count : ℕ) (uuid : List ℕ) (is : Bool)
       → IsLate identity address (Some one) calls
-      (late_sent address (late_in count (let state : AskedState = record { standing = Some one; last = last } in if is then settled state else state)) calls)
-      (late_calls identity address
+      (late_sent options address (late_in count (let state : AskedState = record { standing = Some one; last = last } in if is then settled state else state)) calls)
+      (late_calls options identity address
       (late_in count (let state : AskedState = record { standing = Some one; last = last } in if is then settled state else state)) calls)
   by_end one last count uuid true = inl (refl, refl)
   by_end one last count uuid false = by_test one (is_over (record { standing = Some one; last = last }) && not (is_full count))
 
   late_either : (standing : Option Standing) (last count : ℕ) (by : Option (List ℕ))
       → IsLate identity address standing calls
-      (late_sent address (late_in count (left_asked by (record { standing = standing; last = last }))) calls)
-      (late_calls identity address (late_in count (left_asked by (record { standing = standing; last = last }))) calls)
+      (late_sent options address (late_in count (left_asked by (record { standing = standing; last = last }))) calls)
+      (late_calls options identity address (late_in count (left_asked by (record { standing = standing; last = last }))) calls)
   late_either None last count None = inl (refl, refl)
   late_either None last count (Some uuid) = inl (refl, refl)
   late_either (Some one) last count None = by_test one (is_over (record { standing = Some one; last = last }) && not (is_full count))
@@ -175,14 +192,14 @@ module _ (identity : Identity) (address : List ℕ) (calls : List Kept) where
 
 -- With a unit: what is sent and stored for a call that had no answer.
 pub late_of : (station : Station) (live : Live)
-    → IsLate station.identity live.values.running.suite.address live.rest.asked.standing live.rest.calls (late_at live)
-    (late_calls station.identity live.values.running.suite.address (late_in (length (unit_sent live)) (unit_rest live).asked) (unit_rest live).calls)
+    → IsLate station.identity live.values.running.suite.address live.rest.asked.standing live.rest.calls (late_at station live)
+    (late_calls station.options station.identity live.values.running.suite.address (late_in (length (unit_sent live)) (unit_rest live).asked) (unit_rest live).calls)
 late_of station live =
-    late_either station.identity live.values.running.suite.address live.rest.calls live.rest.asked.standing live.rest.asked.last (length (unit_sent live))
+    late_either station.options station.identity live.values.running.suite.address live.rest.calls live.rest.asked.standing live.rest.asked.last (length (unit_sent live))
     (option_map (λ farewell. farewell.uuid) (due_of live.rest.link).farewell)
 
 pub late_is : (outcomes : List Outcome) (station : Station) (live : Live)
-    → IsLate station.identity live.values.running.suite.address live.rest.asked.standing live.rest.calls (late_at live)
+    → IsLate station.identity live.values.running.suite.address live.rest.asked.standing live.rest.calls (late_at station live)
     (heard_step outcomes station live Ticks).live.rest.calls
 unfolding heard_step handled_step
 late_is outcomes station live = late_of station live

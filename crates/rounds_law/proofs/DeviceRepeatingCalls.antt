@@ -17,6 +17,8 @@ use Rattle.device_frames.specs.declared.note.Note.TheVariants as note
 use Rattle.device_frames.specs.Heard.{Calls, Heard, Reported, heard_of}
 use Rattle.device_frames.specs.Sent.{Again}
 use Rattle.device_core.specs.State.{Live, Station}
+use Rattle.device_core.specs.Asking.{is_kept, looked_if}
+use Rattle.relations.specs.declared.options.DeviceOptions.{DeviceOptions}
 use Rattle.device_core.specs.Handled.{Handled, Refuses, handled_call, handled_looked, handled_said, is_running}
 use Rattle.device_core.specs.Machine.{Stepped, handled_step, heard_step}
 use Rattle.controller_messages.specs.declared.setup.Setup.{Setup}
@@ -58,15 +60,16 @@ looked_old activity sequence calls kept answered less =
 
 -- ---- the calls of the plan's controller
 
--- each call has an operation, and its octets are those of a call
-operates : (request : Request) → IsCalled request → (operation : Operation) × (operation_of (operation_in request) ≡ Some operation)
+-- each call has an operation, and its octets are those of a call; it is answered again when it is repeated
+operates : (request : Request) → IsCalled request
+    → (operation : Operation) × (operation_of (operation_in request) ≡ Some operation) × ((options : DeviceOptions) → is_kept options operation ≡ true)
 unfolding operation_of
 operates asks.Identify called = absurd called
 operates asks.Address called = absurd called
-operates asks.Connect called = (Connect, refl)
-operates (asks.Write number) called = (Write, refl)
-operates asks.PrmEnd called = (Control, refl)
-operates (asks.Release sequence) called = (Release, refl)
+operates asks.Connect called = (Connect, refl, λ options. refl)
+operates (asks.Write number) called = (Write, refl, λ options. refl)
+operates asks.PrmEnd called = (Control, refl, λ options. refl)
+operates (asks.Release sequence) called = (Release, refl, λ options. refl)
 
 pub is_call : (setup : Setup) (identity : Identity) (request : Request) → IsCalled request
     → request_to setup identity request ≡ call_frame setup identity.mac (call_for setup request)
@@ -92,7 +95,9 @@ module _ (setup : Setup) (identity : Identity) (outcomes : List Outcome) (statio
       → handled_said station live caller (Calls call) ≡ handled_looked station live caller call (blocks_of setup request) (operates request called).0 what
   by_looked what is =
       ap (λ (o : Option Operation). handled_call station live caller call o) (operates request called).1
-      ∙ ap (λ (l : Looked). handled_looked station live caller call (blocks_of setup request) (operates request called).0 l) is
+      ∙ (ap (λ (kept : Bool). handled_looked station live caller call (blocks_of setup request) (operates request called).0
+      (looked_if kept setup.activity (sequence_of setup.plan request) live.rest.calls)) ((operates request called).2 station.options)
+      ∙ ap (λ (l : Looked). handled_looked station live caller call (blocks_of setup request) (operates request called).0 l) is)
 
   pub again_answered : sequence_of setup.plan request ≡ kept.sequence
       → Leaves live (kept.frame ∷ []) (device_step outcomes station live (request_to setup identity request))

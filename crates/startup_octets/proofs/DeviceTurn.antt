@@ -467,5 +467,7 @@ module _ (undone : AreNotDone) (blocks_read : AreBlocksRead) (long : (block : Bl
       (early_same mac relation turns turn live.rest.link early (taken_none (subst (AllByRecursion IsNoAnswer) (sym it.silent) tt))))
   device_turn early orderly known planned flat came no_access no_end unasked named (inr (inr (inr (inr (inr (inr (inl it))))))) =
       absurd (is_asked it.other (sym unasked ∙ it.busy))
-  device_turn early orderly known planned flat came no_access no_end unasked named (inr (inr (inr (inr (inr (inr (inr it))))))) =
+  device_turn early orderly known planned flat came no_access no_end unasked named (inr (inr (inr (inr (inr (inr (inr (inl it)))))))) =
+      absurd (is_asked it.question (sym unasked ∙ it.asked))
+  device_turn early orderly known planned flat came no_access no_end unasked named (inr (inr (inr (inr (inr (inr (inr (inr it)))))))) =
       absurd (is_asked it.question (sym unasked ∙ it.asked))

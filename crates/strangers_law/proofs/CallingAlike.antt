@@ -2,6 +2,7 @@
 use Rattle.std.proofs.Common.{◌≡◌, ◌&&◌, ◌++◌, ℕ, Bool, true, false, not, length, List, [], ◌∷◌, Option, Some, None, Result, Ok, Err, if◌then◌else◌, refl, sym, ap, subst, ◌∙◌}
 use Rattle.std.proofs.lemmas.Bool.{cond_both}
 use Rattle.arrayvec.specs.ArrayVec.{ArrayVec}
+use Rattle.pn_values.specs.IpSuite.{is_zero}
 use Rattle.pn_values.specs.declared.mac.Mac.{Mac}
 use Rattle.pn_values.specs.declared.real.RealModule.{RealModule}
 use Rattle.module_diff.specs.declared.changes.RealChange.{RealChange}
@@ -14,7 +15,6 @@ use Rattle.dcp_core.specs.Request.{Asked}
 use Rattle.rpc_core.specs.Call.{Asked as Call}
 use Rattle.rpc_core.specs.Response.{Answered}
 use Rattle.rpc_core.specs.declared.header.CallHeader.{CallHeader}
-use Rattle.rpc_core.specs.declared.response.Status.{Status}
 use Rattle.rpc_core.specs.Cache.{Kept, Reported as Looked, again, behind_reported, kept_more, kept_of, looked, new, old, reported_by}
 use Rattle.record_blocks.specs.declared.write_record.IodWriteReq.{IodWriteReq}
 use Rattle.records.specs.declared.status.call_fault.CallFault.{CallFault}
@@ -54,21 +54,22 @@ use Rattle.device_frames.specs.declared.local.Local.TheVariants as local
 use Rattle.relations.specs.Calls.{release_answer}
 use Rattle.relations.specs.Timers.{due_of}
 use Rattle.asked_records.specs.Answers.{Gives, answer_blocks, answer_status, gives_done, gives_octets, gives_refusal, judged, unanswered_status}
-use Rattle.asked_records.specs.Asked.{AskedState, Standing, asks, asks_beside, is_over, is_repeat, settled}
+use Rattle.asked_records.specs.Asked.{AskedState, Standing, asks, asks_beside, behind_displaced, displaced_by, is_over, is_repeat, settled}
 use Rattle.asked_records.specs.Questions.{operation_of as operation_asked}
 use Rattle.asked_records.specs.declared.answering.AnswerFault.{AnswerFault}
 use Rattle.asked_records.specs.declared.question.Question.{Question}
-use Rattle.asked_records.specs.declared.status.Unanswered.TheVariants.{Busy}
+use Rattle.asked_records.specs.declared.status.Unanswered.{Unanswered}
+use Rattle.asked_records.specs.declared.status.Unanswered.TheVariants.{Busy, Late}
 use Rattle.device_frames.specs.Relation.{where_due}
 use Rattle.device_frames.specs.Sent.{Sent}
-use Rattle.device_core.specs.Asking.{Asking, answered_link, asked_later, asking_of, ended_by, is_full, is_new, kept_reply, late_calls, late_in, late_reply, late_sent, released_by, reply_to}
+use Rattle.device_core.specs.Asking.{Asking, answered_link, asked_later, asking_of, calls_after, ended_by, is_full, is_kept, is_new, kept_if, kept_reply, late_in, later_calls, later_replies, looked_if, question_replies, refused_calls, refused_reply, refused_sent, released_by, reply_to}
 use Rattle.device_core.specs.State.{Live, Rest, Station, alias_in}
-use Rattle.device_core.specs.Handled.{Handled, Refuses, Sets, Writes, WritesEach, Moves, change_of, handled, handled_alarm, handled_answer, handled_asking, handled_blocks, handled_call, handled_change, handled_effect, handled_gives, handled_input, handled_judged, handled_local, handled_looked, handled_low, handled_low_pdu, handled_modules, handled_notice, handled_own, handled_pdu, handled_plug_answer, handled_question, handled_received, handled_request, handled_response, handled_said, handled_unanswered, handled_write, is_request, is_running, kept_status, may_be_diagnosed, replied, ticked, unit_rest, unit_sent}
+use Rattle.device_core.specs.Handled.{Handled, Refuses, Sets, Writes, WritesEach, Moves, change_of, handled, handled_alarm, handled_answer, handled_asking, handled_blocks, handled_call, handled_change, handled_effect, handled_gives, handled_input, handled_judged, handled_local, handled_looked, handled_low, handled_low_pdu, handled_modules, handled_notice, handled_own, handled_pdu, handled_plug_answer, handled_question, handled_received, handled_request, handled_response, handled_said, handled_unanswered, handled_write, is_request, is_running, kept_status, may_be_diagnosed, ticked, unit_rest, unit_sent}
 use Rattle.device_core.specs.Modules.{outside, plug_of, pull_of, slot_pull_of}
-use Rattle.end_laws.specs.device.Small.{IsAskedOwn}
 use Rattle.octets_law.proofs.Asked.{dropped_such, judged_goes, later_such, left_such, same_question, settled_such}
+use Rattle.octets_law.proofs.Operations.{displaced_is}
 use Rattle.octets_law.proofs.Questions.{IsOwn as HasHeader, asking_own}
-use Rattle.strangers_law.specs.Calling.{IsOwn, IsRecent}
+use Rattle.strangers_law.specs.Calling.{IsAskedOwn, IsOwn, IsRecent}
 use Rattle.strangers_law.proofs.CallingStore.{own_first, own_recent}
 
 -- The same state with other stored answers.
@@ -107,35 +108,68 @@ module _ (own : List ℕ) (others : List (List ℕ)) (station : Station) (live :
   found_same activity sequence is =
       ap (reported_by sequence) (ap (λ a. kept_of a live.rest.calls) is ∙ sym kept ∙ ap (λ a. kept_of a calls) (sym is))
 
-  -- The response to a call of this activity that was asked.
-  replied_same : (rest : Rest) (question : Question) (status : Status) (blocks : List ℕ) → question.header.activity ≡ own → rest.calls ≡ live.rest.calls
+  found_if_same : (stored : Bool) (activity : List ℕ) (sequence : ℕ) → activity ≡ own
+      → looked_if stored activity sequence live.rest.calls ≡ looked_if stored activity sequence calls
+  found_if_same true activity sequence is = found_same activity sequence is
+  found_if_same false activity sequence is = refl
+
+  -- An answer of this activity, stored or not.
+  stored_same : (stored : Bool) (one : Kept) → one.activity ≡ own
+      → (kept_of own (kept_if stored one calls) ≡ kept_of own (kept_if stored one live.rest.calls)) × IsRecent own others (kept_if stored one live.rest.calls)
+  stored_same true one is = (own_first own one calls is ∙ sym (own_first own one live.rest.calls is), own_recent own others one live.rest.calls is)
+  stored_same false one is = (kept, recent)
+
+  -- The response to a call of this activity that was asked, after what else is sent.
+  answers_same : (rest : Rest) (front : List Sent) (stored : Bool) (question : Question) (answer : Sent) → question.header.activity ≡ own
       → IsAskedOwn own rest.asked
-      → Alike (replied station live rest question status blocks) (replied station there (record rest { calls = calls }) question status blocks)
-  replied_same rest question status blocks is same own_asked =
-      subst (λ c. Alike (Replied rest c (looked question.header.activity question.header.sequence c))
-      (Replied rest calls (looked question.header.activity question.header.sequence calls))) (sym same)
-      (subst (λ found. Alike (Replied rest live.rest.calls (looked question.header.activity question.header.sequence live.rest.calls))
-      (Replied rest calls found))
-      (found_same question.header.activity question.header.sequence is) (by_found (looked question.header.activity question.header.sequence live.rest.calls)))
+      → Alike (Moves (record rest { calls = calls_after stored station.identity question answer live.rest.calls })
+      (front ++ question_replies stored question answer live.rest.calls))
+      (Moves (record rest { calls = calls_after stored station.identity question answer calls }) (front ++ question_replies stored question answer calls))
+  answers_same rest front true question answer is own_asked =
+      subst (λ found. Alike (Reported live.rest.calls (looked question.header.activity question.header.sequence live.rest.calls)) (Reported calls found))
+      (found_same question.header.activity question.header.sequence is) (by_found (looked question.header.activity question.header.sequence live.rest.calls))
     where
-      answer : Sent
-      answer = reply_to live.values.running.suite.address question status blocks
+      Reported : List Kept → Looked → Handled
+      Reported all found =
+          Moves (record rest { calls = behind_reported 4 (kept_reply station.identity question answer) all found })
+          (front ++ where_due (is_new found) (answer ∷ []))
 
-      Replied : Rest → List Kept → Looked → Handled
-      Replied rest stored found =
-          Moves (record rest { calls = behind_reported 4 (kept_reply station.identity question answer) stored found }) (where_due (is_new found) (answer ∷ []))
-
-      by_found : (found : Looked) → Alike (Replied rest live.rest.calls found) (Replied rest calls found)
-      by_found new = (
-        _,
-        refl,
-        own_first own (kept_reply station.identity question answer) calls is ∙ sym
-            (own_first own (kept_reply station.identity question answer) live.rest.calls is),
-        own_recent own others (kept_reply station.identity question answer) live.rest.calls is,
-        own_asked,
-      )
+      by_found : (found : Looked) → Alike (Reported live.rest.calls found) (Reported calls found)
+      by_found new =
+          let it = stored_same true (kept_reply station.identity question answer) is in
+          (kept_more 4 (kept_reply station.identity question answer) calls, refl, it.0, it.1, own_asked)
       by_found (again frame) = (calls, refl, kept, recent, own_asked)
       by_found old = (calls, refl, kept, recent, own_asked)
+  answers_same rest front false question answer is own_asked = (calls, refl, kept, recent, own_asked)
+
+  -- The same if it is dropped without an address.
+  later_same : (rest : Rest) (front : List Sent) (stored : Bool) (question : Question) (answer : Sent) → question.header.activity ≡ own
+      → IsAskedOwn own rest.asked
+      → Alike (Moves (record rest { calls = later_calls stored station.identity live.values.running.suite.address question answer live.rest.calls })
+      (front ++ later_replies stored live.values.running.suite.address question answer live.rest.calls))
+      (Moves (record rest { calls = later_calls stored station.identity live.values.running.suite.address question answer calls })
+      (front ++ later_replies stored live.values.running.suite.address question answer calls))
+  later_same rest front stored question answer is own_asked = by_address (is_zero live.values.running.suite.address)
+    where
+      by_address : (none : Bool)
+          → Alike (Moves (record rest { calls = if none then live.rest.calls else calls_after stored station.identity question answer live.rest.calls })
+          (front ++ (if none then [] else question_replies stored question answer live.rest.calls)))
+          (Moves (record rest { calls = if none then calls else calls_after stored station.identity question answer calls })
+          (front ++ (if none then [] else question_replies stored question answer calls)))
+      by_address true = (calls, refl, kept, recent, own_asked)
+      by_address false = answers_same rest front stored question answer is own_asked
+
+  -- A call of this activity that is asked no longer and is refused, if there is one.
+  refused_same : (rest : Rest) (front : List Sent) (reason : Unanswered) (refused : Option Question)
+      → ((question : Question) → refused ≡ Some question → question.header.activity ≡ own) → IsAskedOwn own rest.asked
+      → Alike (Moves (record rest { calls = refused_calls station.options station.identity live.values.running.suite.address reason refused live.rest.calls })
+      (front ++ refused_sent station.options live.values.running.suite.address reason refused live.rest.calls))
+      (Moves (record rest { calls = refused_calls station.options station.identity live.values.running.suite.address reason refused calls })
+      (front ++ refused_sent station.options live.values.running.suite.address reason refused calls))
+  refused_same rest front reason None is own_asked = (calls, refl, kept, recent, own_asked)
+  refused_same rest front reason (Some question) is own_asked =
+      later_same rest front (is_kept station.options (operation_asked question.request)) question
+      (refused_reply live.values.running.suite.address reason question) (is question refl) own_asked
 
   -- A call of this activity that is asked, if no other one is.
   abbrev IsOwnIf : Option AskedState → Type 0
@@ -152,6 +186,14 @@ module _ (own : List ℕ) (others : List (List ℕ)) (station : Station) (live :
   module _ (caller : Caller) (call : Call) (is : call.header.activity ≡ own) where
     first_same : (one : Kept) → one.activity ≡ call.header.activity → kept_of own (kept_more 4 one calls) ≡ kept_of own (kept_more 4 one live.rest.calls)
     first_same one same = own_first own one calls (same ∙ is) ∙ sym (own_first own one live.rest.calls (same ∙ is))
+
+    -- An answer to this call, stored or not.
+    told_kept : (stored : Bool) (one : Kept) → one.activity ≡ call.header.activity
+        → kept_of own (kept_if stored one calls) ≡ kept_of own (kept_if stored one live.rest.calls)
+    told_kept stored one same = (stored_same stored one (same ∙ is)).0
+
+    told_recent : (stored : Bool) (one : Kept) → one.activity ≡ call.header.activity → IsRecent own others (kept_if stored one live.rest.calls)
+    told_recent stored one same = (stored_same stored one (same ∙ is)).1
 
     effect_same : (header : IodWriteReq) (effect : Effect)
         → Alike (handled_effect station live caller call header effect) (handled_effect station there caller call header effect)
@@ -179,13 +221,17 @@ module _ (own : List ℕ) (others : List (List ℕ)) (station : Station) (live :
     own_same blocks Control =
         either (is_plug_control blocks live.rest.link) _ _ _ _ (_, refl, first_same _ refl, own_recent own others _ live.rest.calls is, asked)
         (_, refl, first_same _ refl, own_recent own others _ live.rest.calls is, asked)
-    own_same blocks ReadImplicit = (_, refl, first_same _ refl, own_recent own others _ live.rest.calls is, asked)
+    own_same blocks ReadImplicit =
+        (_, refl, told_kept (is_kept station.options ReadImplicit) _ refl, told_recent (is_kept station.options ReadImplicit) _ refl, asked)
 
-    question_same : (question : Question) (later : Option AskedState) → question.header.activity ≡ own → IsOwnIf later
-        → Alike (handled_question station live question later) (handled_question station there question later)
-    question_same question (Some later) is_own own_later = (calls, refl, kept, recent, own_later)
-    question_same question None is_own own_later =
-        replied_same live.rest question (unanswered_status (operation_asked question.request) Busy) [] is_own refl asked
+    question_same : (question : Question) (displaced : Option Question) (later : Option AskedState) → question.header.activity ≡ own → IsOwnIf later
+        → ((other : Question) → displaced ≡ Some other → other.header.activity ≡ own)
+        → Alike (handled_question station live question displaced later) (handled_question station there question displaced later)
+    question_same question displaced (Some later) is_own own_later gives =
+        refused_same (record live.rest { asked = later }) [] Busy displaced gives own_later
+    question_same question displaced None is_own own_later gives =
+        answers_same live.rest [] (is_kept station.options (operation_asked question.request)) question
+        (reply_to live.values.running.suite.address question (unanswered_status (operation_asked question.request) Busy) []) is_own asked
 
     asking_same : (blocks : List ℕ) (operation : Operation) (asking : Result (Option Asking) CallFault)
         → HasHeader live.rest.real station.named (uuid_of live.rest.link) caller call asking
@@ -193,8 +239,13 @@ module _ (own : List ℕ) (others : List (List ℕ)) (station : Station) (live :
     asking_same blocks operation (Ok None) header = own_same blocks operation
     asking_same blocks operation (Ok (Some asking)) header =
         let is_own : asking.0.header.activity ≡ own = ap (λ (h : CallHeader). h.activity) header ∙ is in
-        question_same asking.0 (asks asking.0 asking.1 live.rest.asked) is_own (own_if asking.0 asking.1 live.rest.asked live.rest.asked.standing is_own)
-    asking_same blocks operation (Err why) header = (_, refl, first_same _ refl, own_recent own others _ live.rest.calls is, asked)
+        let own_first_is = station.options.asks_own_first in
+        let displaced = displaced_by own_first_is asking.0 live.rest.asked in
+        let state = behind_displaced displaced live.rest.asked in
+        question_same asking.0 displaced (asks asking.0 asking.1 state) is_own (own_if asking.0 asking.1 state state.standing is_own)
+        (λ other gives. asked other (displaced_is own_first_is asking.0 other live.rest.asked gives).was)
+    asking_same blocks operation (Err why) header =
+        (_, refl, told_kept (is_kept station.options operation) _ refl, told_recent (is_kept station.options operation) _ refl, asked)
 
     new_same : (blocks : List ℕ) (operation : Operation)
         → Alike (handled_unanswered station live caller call blocks operation) (handled_unanswered station there caller call blocks operation)
@@ -214,10 +265,11 @@ module _ (own : List ℕ) (others : List (List ℕ)) (station : Station) (live :
         → Alike (handled_blocks station live caller call operation blocks) (handled_blocks station there caller call operation blocks)
     blocks_same operation None = (calls, refl, kept, recent, asked)
     blocks_same operation (Some blocks) =
-        let found : Looked = looked call.header.activity call.header.sequence live.rest.calls in
+        let stored : Bool = is_kept station.options operation in
+        let found : Looked = looked_if stored call.header.activity call.header.sequence live.rest.calls in
         subst
         (λ other. Alike (handled_looked station live caller call blocks operation found) (handled_looked station there caller call blocks operation other))
-        (found_same call.header.activity call.header.sequence is) (looked_same blocks operation found)
+        (found_if_same stored call.header.activity call.header.sequence is) (looked_same blocks operation found)
 
     call_same : (operation : Option Operation) → Alike (handled_call station live caller call operation) (handled_call station there caller call operation)
     call_same None = refl
@@ -310,8 +362,10 @@ module _ (own : List ℕ) (others : List (List ℕ)) (station : Station) (live :
   judged_same : (given : Gives) (judged : Result Question AnswerFault) → ((question : Question) → judged ≡ Ok question → question.header.activity ≡ own)
       → Alike (handled_judged station live given judged) (handled_judged station there given judged)
   judged_same given (Ok question) is_own =
-      replied_same (record live.rest { asked = settled live.rest.asked; link = answered_link question given live.rest.link }) question
-      (answer_status question.request given) (answer_blocks question.request given) (is_own question refl) refl (settled_such Own live.rest.asked)
+      later_same (record live.rest { asked = settled live.rest.asked; link = answered_link question given live.rest.link }) []
+      (is_kept station.options (operation_asked question.request)) question
+      (reply_to live.values.running.suite.address question (answer_status question.request given) (answer_blocks question.request given)) (is_own question refl)
+      (settled_such Own live.rest.asked)
   judged_same given (Err why) is_own = refl
 
   gives_same : (number : ℕ) (given : Gives) → Alike (handled_gives station live number given) (handled_gives station there number given)
@@ -341,42 +395,6 @@ module _ (own : List ℕ) (others : List (List ℕ)) (station : Station) (live :
   local_same (local.Refuse number code1 code2) = gives_same number (gives_refusal code1 code2)
 
   -- A unit of time, and the call that is refused with it.
-  abbrev Late : Rest → List Sent → Question → List Kept → Looked → Handled
-  Late rest sent question stored found =
-      let answer = late_reply live.values.running.suite.address question in
-      Moves (record rest { asked = asked_later (length sent) rest.asked; calls = behind_reported 4 (kept_reply station.identity question answer) stored found })
-      (sent ++ where_due (is_new found) (answer ∷ []))
-
-  late_found : (rest : Rest) (sent : List Sent) (question : Question) (found : Looked) → Own question → IsAskedOwn own rest.asked
-      → Alike (Late rest sent question live.rest.calls found) (Late rest sent question calls found)
-  late_found rest sent question new is own_asked =
-      let one = kept_reply station.identity question (late_reply live.values.running.suite.address question) in (
-        _,
-        refl,
-        own_first own one calls is ∙ sym (own_first own one live.rest.calls is),
-        own_recent own others one live.rest.calls is,
-        later_such Own (length sent) rest.asked own_asked,
-      )
-  late_found rest sent question (again frame) is own_asked = (calls, refl, kept, recent, later_such Own (length sent) rest.asked own_asked)
-  late_found rest sent question old is own_asked = (calls, refl, kept, recent, later_such Own (length sent) rest.asked own_asked)
-
-  abbrev Counted : Rest → List Sent → Option Question → List Kept → Handled
-  Counted rest sent late stored =
-      let address = live.values.running.suite.address in
-      Moves (record rest { asked = asked_later (length sent) rest.asked; calls = late_calls station.identity address late stored })
-      (sent ++ late_sent address late stored)
-
-  late_same : (rest : Rest) (sent : List Sent) (late : Option Question) → ((question : Question) → late ≡ Some question → Own question)
-      → IsAskedOwn own rest.asked
-      → Alike (Counted rest sent late live.rest.calls) (Counted rest sent late calls)
-  late_same rest sent None late_own own_asked = (calls, refl, kept, recent, later_such Own (length sent) rest.asked own_asked)
-  late_same rest sent (Some question) late_own own_asked =
-      let activity = question.header.activity in
-      let sequence = question.header.sequence in
-      subst (λ found. Alike (Late rest sent question live.rest.calls (looked activity sequence live.rest.calls)) (Late rest sent question calls found))
-      (found_same activity sequence (late_own question refl))
-      (late_found rest sent question (looked activity sequence live.rest.calls) (late_own question refl) own_asked)
-
   late_is_own : (count : ℕ) (state : AskedState) → IsAskedOwn own state → (question : Question) → late_in count state ≡ Some question → Own question
   late_is_own count state own_asked question =
       cond_both (is_over state && not (is_full count)) _ _ (λ (late : Option Question). late ≡ Some question → Own question) (λ _ is. own_asked question is)
@@ -387,7 +405,8 @@ module _ (own : List ℕ) (others : List (List ℕ)) (station : Station) (live :
       let sent = unit_sent live in
       let rest = unit_rest live in
       let own_asked = left_such Own (ended_by (due_of live.rest.link).farewell) live.rest.asked asked in
-      late_same rest sent (late_in (length sent) rest.asked) (late_is_own (length sent) rest.asked own_asked) own_asked
+      refused_same (record rest { asked = asked_later (length sent) rest.asked }) sent Late (late_in (length sent) rest.asked)
+      (late_is_own (length sent) rest.asked own_asked) (later_such Own (length sent) rest.asked own_asked)
 
   pub handled_same : (heard : Heard) → IsOwn own heard → Same own others (handled station live heard) (handled station (swapped calls live) heard)
   handled_same (Asks asker request) is = request_same asker request.service request

@@ -1,5 +1,5 @@
 -- What a device does at a call of others: it changes nothing but the stored answers.
-use Rattle.std.proofs.Common.{◌≡◌, ◌==◌, ◌&&◌, ◌⊎◌, inl, inr, ℕ, Bool, true, false, List, [], drop, Option, Some, None, Result, Ok, Err, refl, sym, ap, subst, ◌∙◌}
+use Rattle.std.proofs.Common.{◌≡◌, ◌==◌, ◌&&◌, ◌||◌, ◌⊎◌, inl, inr, ℕ, Bool, true, false, not, List, [], drop, Option, Some, None, Result, Ok, Err, refl, sym, ap, subst, ◌∙◌}
 use Rattle.std.proofs.lemmas.Bool.{cond_both, cond-false}
 use Rattle.frame_codec.specs.declared.udp.Caller.{Caller}
 use Rattle.wire.specs.Codec.{◌>>=◌}
@@ -14,6 +14,7 @@ use Rattle.records.specs.declared.status.operation.Operation.{Operation}
 use Rattle.records.specs.declared.status.operation.Operation.TheVariants.{Connect, Release, Read, Write, Control, ReadImplicit}
 use Rattle.records.specs.declared.writes.writing.Writing.{Writing}
 use Rattle.records.specs.status.Operation.{operation_of}
+use Rattle.records.specs.calls.Naming.{is_relation}
 use Rattle.records.specs.reads.Within.{names_relation}
 use Rattle.records.specs.writes.Asked.{writing_of}
 use Rattle.block_codec.specs.declared.block.Block.TheVariants as answers
@@ -33,17 +34,20 @@ use Rattle.asked_records.specs.Questions.{operation_of as operation_asked}
 use Rattle.asked_records.specs.declared.names.RecordName.{RecordName}
 use Rattle.asked_records.specs.declared.question.Question.{Question}
 use Rattle.asked_records.specs.declared.status.Unanswered.TheVariants.{Busy}
-use Rattle.device_core.specs.Asking.{Asking, asking_of, kept_reply, left_asked, released_by, reply_to}
+use Rattle.device_core.specs.Asking.{Asking, asking_of, calls_after, is_kept, kept_if, kept_reply, left_asked, looked_if, released_by, reply_to}
 use Rattle.device_core.specs.State.{Live, Rest, Station}
-use Rattle.device_core.specs.Handled.{Handled, Refuses, Sets, Writes, WritesEach, Moves, handled, handled_asking, handled_blocks, handled_call, handled_looked, handled_own, handled_question, handled_said, handled_unanswered, handled_write, implicitly, is_request, is_running, known_of, partner_of}
+use Rattle.device_core.specs.Handled.{Handled, Refuses, Sets, Writes, WritesEach, Moves, handled, handled_asked, handled_asking, handled_blocks, handled_call, handled_looked, handled_own, handled_question, handled_said, handled_unanswered, handled_write, implicitly, is_request, is_running, known_of, partner_of}
 use Rattle.device_core.specs.Log.{release_log}
 use Rattle.device_core.specs.Modules.{calling_after}
-use Rattle.octets_law.specs.Octets.{activity_of}
+use Rattle.octets_law.specs.Headline.{is_stored}
+use Rattle.octets_law.specs.Octets.{activity_of, part}
+use Rattle.octets_law.proofs.Operations.{IsOfOperation, asking_has, kept_is}
 use Rattle.octets_law.proofs.Questions.{IsOwn as HasHeader, asking_own, no_names}
 use Rattle.strangers_law.specs.Calling.{is_among, operation_in}
+use Rattle.strangers_law.proofs.AskedBy.{asks_apart, displaces_none}
 use Rattle.strangers_law.proofs.CallingHeard.{IsCallHeard}
 use Rattle.strangers_law.proofs.Harmless.{IsHarmless, Names}
-use Rattle.strangers_law.proofs.Unnamed.{no_plug_end, no_prm_end, no_read, no_release, no_write, no_writing, unnamed_read}
+use Rattle.strangers_law.proofs.Unnamed.{no_plug_end, no_prm_end, no_read, no_release, no_write, no_writing, unnamed as unnamed_uuid, unnamed_read}
 
 -- ---- what it leaves
 
@@ -51,6 +55,12 @@ use Rattle.strangers_law.proofs.Unnamed.{no_plug_end, no_prm_end, no_read, no_re
 abbrev pub IsApart : Option RelationState → List ℕ → Type 0
 IsApart None blocks = Unit {0}
 IsApart (Some link) blocks = Names link blocks ≡ false
+
+-- So no ARUUID at its place is that of the relation.
+apart_uuid : (link : Option RelationState) (blocks : List ℕ) → IsApart link blocks → (uuid : List ℕ) → part 8 16 blocks ≡ uuid
+    → is_relation (uuid_of link) uuid ≡ false
+apart_uuid None blocks other uuid at = refl
+apart_uuid (Some link) blocks other uuid at = unnamed_uuid link blocks uuid other at
 
 -- One more answer of these activities is stored, or none.
 abbrev pub IsStored : List (List ℕ) → Rest → Rest → Type 0
@@ -177,22 +187,29 @@ module _ (others : List (List ℕ)) (station : Station) (live : Live) where
   abbrev Left : Handled → Type 0
   Left what = Leaves station.named others live what
 
-  module _ (caller : Caller) (call : Call) (among : is_among call.header.activity others ≡ true) where
+  module _ (caller : Caller) (call : Call)
+      (among : (which : Operation) → operation_of call.header.operation ≡ Some which → is_kept station.options which ≡ true
+      → is_among call.header.activity others ≡ true) where
     -- What is stored of an answer, while the relation and the log are as they were.
-    stored : (one : Kept) (link : Option RelationState) (log : List LogEntry) (asked : AskedState) → one.activity ≡ call.header.activity → link ≡ live.rest.link
-        → log ≡ live.rest.log → asked ≡ live.rest.asked
-        → IsStoredOrAsked station.named others live.rest (with_parts live.rest (kept_more 4 one live.rest.calls) link log asked)
-    stored one link log asked is links logs same =
-        inl (inr (one, subst (λ a. is_among a others ≡ true) (sym is) among, as_was live.rest (kept_more 4 one live.rest.calls) link log asked links logs same))
+    stored : (which : Operation) → operation_of call.header.operation ≡ Some which → (one : Kept) (link : Option RelationState) (log : List LogEntry)
+        (asked : AskedState) → one.activity ≡ call.header.activity → link ≡ live.rest.link → log ≡ live.rest.log → asked ≡ live.rest.asked
+        → IsStoredOrAsked station.named others live.rest (with_parts live.rest (kept_if (is_kept station.options which) one live.rest.calls) link log asked)
+    stored which has one link log asked is links logs same = by_kept (is_kept station.options which) (among which has)
+      where
+        by_kept : (kept : Bool) → (kept ≡ true → is_among call.header.activity others ≡ true)
+            → IsStoredOrAsked station.named others live.rest (with_parts live.rest (kept_if kept one live.rest.calls) link log asked)
+        by_kept true told =
+            inl (inr (one, subst (λ a. is_among a others ≡ true) (sym is) (told refl), as_was live.rest (kept_more 4 one live.rest.calls) link log asked links logs same))
+        by_kept false told = inl (inl (as_was live.rest live.rest.calls link log asked links logs same))
 
     new_left : (blocks : List ℕ) (operation : Operation) → IsApart live.rest.link blocks → (operation ≡ Connect → ⊥)
-        → Left (handled_own station live caller call blocks operation)
-    new_left blocks Connect other none = absurd (none refl)
-    new_left blocks Release other none =
-        stored _ _ _ _ refl (release_stays live.rest.link blocks other) (release_logs live.rest.link blocks other live.rest.units live.rest.log)
+        → operation_of call.header.operation ≡ Some operation → Left (handled_own station live caller call blocks operation)
+    new_left blocks Connect other none has = absurd (none refl)
+    new_left blocks Release other none has =
+        stored Release has _ _ _ _ refl (release_stays live.rest.link blocks other) (release_logs live.rest.link blocks other live.rest.units live.rest.log)
         (release_asked live.rest.link blocks other live.rest.asked)
-    new_left blocks Read other none =
-        stored _ _ _ _ refl (by_link live.rest.link refl other read refl) refl refl
+    new_left blocks Read other none has =
+        stored Read has _ _ _ _ refl (by_link live.rest.link refl other read refl) refl refl
       where
         read : Result (List ℕ) CallFault
         read = relation_read (known_of station live) station.identity live.rest.real live.values.running blocks
@@ -203,81 +220,113 @@ module _ (others : List (List ℕ)) (station : Station) (live : Live) where
         by_link (Some link) is other (Ok octets) e =
             absurd (no_read (known_of station live) station.identity live.rest.real live.values.running link blocks octets is other e)
         by_link link is other (Err why) e = refl
-    new_left blocks Write other none = by_result (writing_of (uuid_of live.rest.link) live.rest.real blocks) refl
+    new_left blocks Write other none has = by_result (writing_of (uuid_of live.rest.link) live.rest.real blocks) refl
       where
         by_result : (r : Result Writing CallFault) → writing_of (uuid_of live.rest.link) live.rest.real blocks ≡ r
             → Left (handled_write station live caller call r)
         by_result (Ok writing) is = absurd (no_writes live.rest.real live.rest.link blocks writing other is)
-        by_result (Err why) is = stored _ _ _ _ refl refl refl refl
-    new_left blocks Control other none =
+        by_result (Err why) is = stored Write has _ _ _ _ refl refl refl refl
+    new_left blocks Control other none has =
         cond_both (is_plug_control blocks live.rest.link) _ _ Left
-        (λ _. stored _ _ _ _ refl (plug_end_stays (partner_of caller) station.options.ready_by_application live.rest.link blocks other) refl refl)
-        (λ _. stored _ _ _ _ refl (prm_end_stays (partner_of caller) station.options.ready_by_application live.rest.link blocks other) refl refl)
-    new_left blocks ReadImplicit other none =
-        stored _ _ _ _ refl (implicit_stays (partner_of caller) live.rest.link blocks read other) refl refl
+        (λ _. stored Control has _ _ _ _ refl (plug_end_stays (partner_of caller) station.options.ready_by_application live.rest.link blocks other) refl refl)
+        (λ _. stored Control has _ _ _ _ refl (prm_end_stays (partner_of caller) station.options.ready_by_application live.rest.link blocks other) refl refl)
+    new_left blocks ReadImplicit other none has =
+        stored ReadImplicit has _ _ _ _ refl (implicit_stays (partner_of caller) live.rest.link blocks read other) refl refl
       where
         read : Result (List ℕ) CallFault
         read = implicit_read (known_of station live) station.identity live.rest.real live.values.running blocks
 
     -- A call for a record of the application is asked, or refused since another one is asked.
-    busy_left : (question : Question) (answer : Sent) → question.header ≡ call.header → (found : Looked)
-        → IsStoredOrAsked station.named others live.rest
-        (record live.rest { calls = behind_reported 4 (kept_reply station.identity question answer) live.rest.calls found })
-    busy_left question answer same fresh =
-        stored (kept_reply station.identity question answer) live.rest.link live.rest.log live.rest.asked
-        (ap (λ (h : CallHeader). h.activity) same) refl refl refl
-    busy_left question answer same (again frame) = inl (inl refl)
-    busy_left question answer same late = inl (inl refl)
+    busy_left : (kept : Bool) → (kept ≡ true → is_among call.header.activity others ≡ true) → (question : Question) (answer : Sent)
+        → question.header ≡ call.header
+        → IsStoredOrAsked station.named others live.rest (record live.rest { calls = calls_after kept station.identity question answer live.rest.calls })
+    busy_left false told question answer same = inl (inl refl)
+    busy_left true told question answer same = by_found (looked question.header.activity question.header.sequence live.rest.calls)
+      where
+        one : Kept
+        one = kept_reply station.identity question answer
 
-    question_left : (question : Question) (asked : Option AskedState) → question.header ≡ call.header → (station.named ≡ [] → ⊥)
-        → Left (handled_question station live question asked)
-    question_left question (Some asked) same named = inr (named, asked, refl)
-    question_left question None same named =
-        busy_left question (reply_to live.values.running.suite.address question (unanswered_status (operation_asked question.request) Busy) []) same
-        (looked question.header.activity question.header.sequence live.rest.calls)
+        by_found : (found : Looked) → IsStoredOrAsked station.named others live.rest (record live.rest { calls = behind_reported 4 one live.rest.calls found })
+        by_found fresh =
+            inl (inr (one, subst (λ (h : CallHeader). is_among h.activity others ≡ true) (sym same) (told refl), refl))
+        by_found (again frame) = inl (inl refl)
+        by_found late = inl (inl refl)
+
+    question_left : (question : Question) (asked : Option AskedState) (which : Operation) → question.header ≡ call.header
+        → operation_asked question.request ≡ which → operation_of call.header.operation ≡ Some which → (station.named ≡ [] → ⊥)
+        → Left (handled_question station live question None asked)
+    question_left question (Some asked) which same kind has named = inr (named, asked, refl)
+    question_left question None which same kind has named =
+        busy_left (is_kept station.options (operation_asked question.request))
+        (λ kept. among which has (ap (is_kept station.options) (sym kind) ∙ kept)) question
+        (reply_to live.values.running.suite.address question (unanswered_status (operation_asked question.request) Busy) []) same
 
     asking_left : (blocks : List ℕ) (operation : Operation) (asking : Result (Option Asking) CallFault)
         → asking_of live.rest.real station.named (uuid_of live.rest.link) caller call blocks operation ≡ asking
-        → HasHeader live.rest.real station.named (uuid_of live.rest.link) caller call asking → IsApart live.rest.link blocks → (operation ≡ Connect → ⊥)
-        → Left (handled_asking station live caller call blocks operation asking)
-    asking_left blocks operation (Ok None) is own other none = new_left blocks operation other none
-    asking_left blocks operation (Ok (Some asking)) is own other none =
-        question_left asking.0 (asks asking.0 asking.1 live.rest.asked) own
+        → HasHeader live.rest.real station.named (uuid_of live.rest.link) caller call asking
+        → IsOfOperation live.rest.real station.named (uuid_of live.rest.link) caller call operation asking
+        → IsApart live.rest.link blocks → (operation ≡ Connect → ⊥)
+        → operation_of call.header.operation ≡ Some operation → Left (handled_asking station live caller call blocks operation asking)
+    asking_left blocks operation (Ok None) is own kind other none has = new_left blocks operation other none has
+    asking_left blocks operation (Ok (Some asking)) is own kind other none has =
+        let implicit = (asks_apart live.rest.real station.named (uuid_of live.rest.link) caller call blocks (apart_uuid live.rest.link blocks other) operation
+        asking is).1 in
+        subst (λ displaced. Left (handled_asked station live asking displaced))
+        (sym (displaces_none station.options.asks_own_first asking.0 live.rest.asked implicit))
+        (question_left asking.0 (asks asking.0 asking.1 live.rest.asked) operation own kind has
         (λ empty. no_names live.rest.real (uuid_of live.rest.link) caller call blocks operation asking
-        (subst (λ n. asking_of live.rest.real n (uuid_of live.rest.link) caller call blocks operation ≡ Ok (Some asking)) empty is))
-    asking_left blocks operation (Err why) is own other none = stored _ _ _ _ refl refl refl refl
+        (subst (λ n. asking_of live.rest.real n (uuid_of live.rest.link) caller call blocks operation ≡ Ok (Some asking)) empty is)))
+    asking_left blocks operation (Err why) is own kind other none has = stored operation has _ _ _ _ refl refl refl refl
 
     unanswered_left : (blocks : List ℕ) (operation : Operation) → IsApart live.rest.link blocks → (operation ≡ Connect → ⊥)
-        → Left (handled_unanswered station live caller call blocks operation)
-    unanswered_left blocks operation other none =
+        → operation_of call.header.operation ≡ Some operation → Left (handled_unanswered station live caller call blocks operation)
+    unanswered_left blocks operation other none has =
         cond_both (is_repeat call.header.activity call.header.sequence live.rest.asked) _ _ Left (λ _. inl (inl refl))
         (λ _. asking_left blocks operation (asking_of live.rest.real station.named (uuid_of live.rest.link) caller call blocks operation) refl
-        (asking_own live.rest.real station.named (uuid_of live.rest.link) caller call blocks operation) other none)
+        (asking_own live.rest.real station.named (uuid_of live.rest.link) caller call blocks operation)
+        (asking_has live.rest.real station.named (uuid_of live.rest.link) caller call blocks operation) other none has)
 
     looked_left : (blocks : List ℕ) (operation : Operation) (found : Looked) → IsApart live.rest.link blocks → (operation ≡ Connect → ⊥)
-        → Left (handled_looked station live caller call blocks operation found)
-    looked_left blocks operation fresh other none = unanswered_left blocks operation other none
-    looked_left blocks operation (again frame) other none = inl (inl refl)
-    looked_left blocks operation late other none = tt
+        → operation_of call.header.operation ≡ Some operation → Left (handled_looked station live caller call blocks operation found)
+    looked_left blocks operation fresh other none has = unanswered_left blocks operation other none has
+    looked_left blocks operation (again frame) other none has = inl (inl refl)
+    looked_left blocks operation late other none has = tt
 
     blocks_left : (operation : Operation) (blocks : Option (List ℕ)) → call.blocks ≡ blocks
         → ((some : List ℕ) → call.blocks ≡ Some some → IsApart live.rest.link some)
-        → (operation ≡ Connect → ⊥) → Left (handled_blocks station live caller call operation blocks)
-    blocks_left Connect None is other none = absurd (none refl)
-    blocks_left Release None is other none = inl (inl refl)
-    blocks_left Read None is other none = inl (inl refl)
-    blocks_left Write None is other none = inl (inl refl)
-    blocks_left Control None is other none = inl (inl refl)
-    blocks_left ReadImplicit None is other none = inl (inl refl)
-    blocks_left operation (Some blocks) is other none =
-        looked_left blocks operation (looked call.header.activity call.header.sequence live.rest.calls) (other blocks is) none
+        → (operation ≡ Connect → ⊥) → operation_of call.header.operation ≡ Some operation → Left (handled_blocks station live caller call operation blocks)
+    blocks_left Connect None is other none has = absurd (none refl)
+    blocks_left Release None is other none has = inl (inl refl)
+    blocks_left Read None is other none has = inl (inl refl)
+    blocks_left Write None is other none has = inl (inl refl)
+    blocks_left Control None is other none has = inl (inl refl)
+    blocks_left ReadImplicit None is other none has = inl (inl refl)
+    blocks_left operation (Some blocks) is other none has =
+        looked_left blocks operation (looked_if (is_kept station.options operation) call.header.activity call.header.sequence live.rest.calls)
+        (other blocks is) none has
 
     call_left : (operation : Option Operation) → ((some : List ℕ) → call.blocks ≡ Some some → IsApart live.rest.link some) → (operation ≡ Some Connect → ⊥)
-        → Left (handled_call station live caller call operation)
-    call_left None other none = tt
-    call_left (Some operation) other none = blocks_left operation call.blocks refl other (λ e. none (ap Some e))
+        → operation_of call.header.operation ≡ operation → Left (handled_call station live caller call operation)
+    call_left None other none has = tt
+    call_left (Some operation) other none has = blocks_left operation call.blocks refl other (λ e. none (ap Some e)) has
 
-  module _ (frame : List ℕ) (among : is_among (activity_of (drop 42 frame)) others ≡ true) (none : (operation_in (drop 42 frame) == 0) ≡ false) where
+  module _ (frame : List ℕ) (among : (is_among (activity_of (drop 42 frame)) others || not (is_stored station.options (drop 42 frame))) ≡ true)
+      (none : (operation_in (drop 42 frame) == 0) ≡ false) where
+    -- If its answer is stored, its activity is one of these.
+    stored_among : (call : Call) → activity_of (drop 42 frame) ≡ call.header.activity → operation_in (drop 42 frame) ≡ call.header.operation
+        → (which : Operation) → operation_of call.header.operation ≡ Some which → is_kept station.options which ≡ true
+        → is_among call.header.activity others ≡ true
+    stored_among call activity operation which has kept =
+        let is : is_stored station.options (drop 42 frame) ≡ true =
+        ap (λ n. not (station.options.reads_not_kept && n == 5)) operation ∙ kept_is station.options call.header.operation which has ∙ kept in
+        subst (λ a. is_among a others ≡ true) activity
+        (either (is_among (activity_of (drop 42 frame)) others) (is_stored station.options (drop 42 frame)) is among)
+      where
+        either : (one other : Bool) → other ≡ true → (one || not other) ≡ true → one ≡ true
+        either true other is told = refl
+        either false true is told = absurd cc
+        either false false is told = absurd cc
+
     unnamed : (caller : Caller) (address : List ℕ) (call : Call) (link : Option RelationState) → IsForeign link (Reported caller address (Calls call))
         → (some : List ℕ) → call.blocks ≡ Some some → IsApart link some
     unnamed caller address call None other some is = tt
@@ -287,8 +336,8 @@ module _ (others : List (List ℕ)) (station : Station) (live : Live) where
         → IsForeign live.rest.link (Reported caller address said)
         → Left (handled_said station live caller said)
     said_left caller address (Calls call) hears other =
-        call_left caller call (subst (λ a. is_among a others ≡ true) hears.0 among) (operation_of call.header.operation)
-        (unnamed caller address call live.rest.link other) (not_connect call.header.operation (subst (λ n. (n == 0) ≡ false) hears.1 none))
+        call_left caller call (stored_among call hears.0 hears.1) (operation_of call.header.operation)
+        (unnamed caller address call live.rest.link other) (not_connect call.header.operation (subst (λ n. (n == 0) ≡ false) hears.1 none)) refl
     said_left caller address (Responds response) hears other = absurd hears
     said_left caller address Garbled hears other = tt
 

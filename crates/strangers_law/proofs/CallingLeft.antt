@@ -1,5 +1,5 @@
 -- The step of a device at a call of others.
-use Rattle.std.proofs.Common.{◌≡◌, ◌==◌, ◌&&◌, inl, inr, ℕ, Bool, true, false, not, List, [], drop, take, Option, Some, None, refl, sym, ap, subst, ◌∙◌}
+use Rattle.std.proofs.Common.{◌≡◌, ◌==◌, ◌&&◌, ◌||◌, inl, inr, ℕ, Bool, true, false, not, List, [], drop, take, Option, Some, None, refl, sym, ap, subst, ◌∙◌}
 use Rattle.std.proofs.lemmas.Bool.{and_parts}
 use Rattle.flash_model.specs.declared.flash.Flash.{Ghosts as Flash}
 use Rattle.rpc_core.specs.Cache.{Kept, kept_more}
@@ -14,9 +14,9 @@ use Rattle.device_core.specs.State.{Live, Rest, State, Station, store_of}
 use Rattle.device_core.specs.Handled.{Handled, Refuses, Sets, Writes, WritesEach, Moves, handled}
 use Rattle.device_core.specs.Machine.{handled_step, heard_step, items_in}
 use Rattle.device_core.specs.Steps.{Steps}
-use Rattle.end_laws.specs.device.Small.{IsAskedOwn}
+use Rattle.octets_law.specs.Headline.{is_stored}
 use Rattle.octets_law.specs.Octets.{activity_of, untagged}
-use Rattle.strangers_law.specs.Calling.{AreOthers, IsCallOf, IsCalled, IsLike, IsRecent, is_among, operation_in, with_asked, with_calls}
+use Rattle.strangers_law.specs.Calling.{AreOthers, IsAskedOwn, IsCallOf, IsCalled, IsLike, IsRecent, is_among, operation_in, with_asked, with_calls}
 use Rattle.strangers_law.specs.Quiet.{belongs_in, heard_in, is_call}
 use Rattle.strangers_law.specs.Strange.{same}
 use Rattle.strangers_law.proofs.CallingHeard.{call_heard}
@@ -85,7 +85,7 @@ module _ {F : Type 0} {S : ℕ} (as_flash : Flash F S) (own : List ℕ) (others 
   heard_left =
       let frame : List ℕ = untagged octets in
       let to : Bool = same (take 6 frame) old.station.identity.mac.octets in
-      let among : Bool = is_among (activity_of (drop 42 frame)) others in
+      let among : Bool = is_among (activity_of (drop 42 frame)) others || not (is_stored old.station.options (drop 42 frame)) in
       let third = and_parts (to && is_call frame && among) (not (operation_in (drop 42 frame) == 0)) is.call in
       let second = and_parts (to && is_call frame) among third.0 in
       let first = and_parts to (is_call frame) second.0 in

@@ -21,9 +21,8 @@ use Rattle.device_core.specs.Asking.{ended_by}
 use Rattle.device_core.specs.Machine.{Finished, Stepped, farewell_at, finished, handled_step, heard_step, items_in, items_of, resets}
 use Rattle.device_core.specs.State.{Live, Rest, State, Station, store_of}
 use Rattle.device_core.specs.Steps.{Steps}
-use Rattle.end_laws.specs.device.Small.{IsAskedOwn}
 use Rattle.octets_law.proofs.Asked.{left_such}
-use Rattle.strangers_law.specs.Calling.{GoesOnAlike, IsLike, IsOwn, IsRecent, with_calls}
+use Rattle.strangers_law.specs.Calling.{GoesOnAlike, IsAskedOwn, IsLike, IsOwn, IsRecent, with_calls}
 use Rattle.strangers_law.proofs.CallingAlike.{Same, handled_same, swapped}
 use Rattle.strangers_law.proofs.CallingStore.{own_first, own_recent}
 

@@ -54,7 +54,7 @@ use Rattle.octets_law.proofs.WriteCalls.{bind_ok, fault_ok}
 pub unnamed : (link : RelationState) (blocks uuid : List ℕ) → Names link blocks ≡ false → part 8 16 blocks ≡ uuid → is_relation (uuid_of (Some link)) uuid ≡ false
 unnamed link blocks uuid other at = subst (λ l. pointwise nat_eq link.request.ar.uuid l ≡ false) at other
 
-refused_in : (standing : Option (List ℕ)) (uuid : List ℕ) → is_relation standing uuid ≡ false → in_relation standing uuid ≡ Ok tt → ⊥
+pub refused_in : (standing : Option (List ℕ)) (uuid : List ℕ) → is_relation standing uuid ≡ false → in_relation standing uuid ≡ Ok tt → ⊥
 unfolding in_relation
 refused_in standing uuid other e =
     let no : (not (is_relation standing uuid)) ≡ true = ap not other in

@@ -1,16 +1,18 @@
 -- Calls of other stations to a device: they change nothing but the stored answers and what is asked of the application, and as long as at most three
 -- other stations call, the answer that is stored for the controller remains. By their octets alone.
-use Rattle.std.specs.Prelude.{◌≡◌, ◌≤◌, ◌==◌, ◌&&◌, ℕ, Bool, true, false, not, List, [], ◌∷◌, drop, take, length, if◌then◌else◌, None, IsSome}
+use Rattle.std.specs.Prelude.{◌≡◌, ◌≤◌, ◌==◌, ◌&&◌, ◌||◌, ℕ, Bool, true, false, not, List, [], ◌∷◌, drop, take, length, if◌then◌else◌, Some, None, IsSome}
 use Rattle.std.specs.List.{AllByRecursion, list_any}
 use Rattle.flash_model.specs.declared.flash.Flash.{Ghosts as Flash}
 use Rattle.pn_values.specs.declared.identity.Identity.{Identity}
 use Rattle.rpc_core.specs.Cache.{Kept, is_of, kept_more, kept_of}
-use Rattle.asked_records.specs.Asked.{AskedState}
+use Rattle.asked_records.specs.Asked.{AskedState, question_in}
+use Rattle.asked_records.specs.declared.question.Question.{Question}
+use Rattle.relations.specs.declared.options.DeviceOptions.{DeviceOptions}
 use Rattle.device_frames.specs.Heard.{Heard, Reported, Calls}
 use Rattle.device_frames.specs.declared.note.Note.{Note}
 use Rattle.device_core.specs.State.{State}
 use Rattle.device_core.specs.Steps.{Steps}
-use Rattle.end_laws.specs.device.Small.{IsAskedOwn}
+use Rattle.octets_law.specs.Headline.{is_stored}
 use Rattle.octets_law.specs.Octets.{activity_of, in_order, untagged}
 use Rattle.strangers_law.specs.Quiet.{belongs_in, heard_in, is_call}
 use Rattle.strangers_law.specs.Strange.{same}
@@ -25,18 +27,21 @@ operation_in call = in_order 68 2 call
 abbrev pub is_among : List ℕ → List (List ℕ) → Bool
 is_among activity others = list_any (λ other. same other activity) others
 
--- A call to this station with one of these activities that is no Connect. Everything is read at fixed places of a frame without its VLAN tag.
-abbrev pub is_call_among : List (List ℕ) → List ℕ → List ℕ → Bool
-is_call_among others station frame =
-    same (take 6 frame) station && is_call frame && is_among (activity_of (drop 42 frame)) others && not (operation_in (drop 42 frame) == 0)
+-- A call to this station with one of these activities that is no Connect. Everything is read at fixed places of a frame without its VLAN tag. A Read
+-- Implicit may have any activity if the device does not store the answers to these (`is_stored` in the laws of octets).
+abbrev pub is_call_among : DeviceOptions → List (List ℕ) → List ℕ → List ℕ → Bool
+is_call_among options others station frame =
+    same (take 6 frame) station && is_call frame && (is_among (activity_of (drop 42 frame)) others || not (is_stored options (drop 42 frame)))
+    && not (operation_in (drop 42 frame) == 0)
 
 -- Such a call does not belong to the relation of the device, if it has one. A Connect is excluded: without a relation it makes one, and with one its
 -- refusal is logged.
 pub record IsCallOf {F : Type 0} (others : List (List ℕ)) (device : State F) (octets : List ℕ) : Type 0 where
-  pub call : is_call_among others device.station.identity.mac.octets (untagged octets) ≡ true
+  pub call : is_call_among device.station.options others device.station.identity.mac.octets (untagged octets) ≡ true
   pub strange : belongs_in device.station.identity.mac.octets device.live.rest.link (untagged octets) ≡ false
 
--- At most three other activities. With four the stored answer of the controller can be replaced, and a call that it repeats is carried out again.
+-- At most three other activities. With four the stored answer of the controller can be replaced, and a call that it repeats is carried out again. The
+-- activities of Read Implicit whose answers are not stored need not be among them.
 pub record AreOthers (own : List ℕ) (others : List (List ℕ)) : Type 0 where
   pub few : length others ≤ 3
   pub apart : is_among own others ≡ false
@@ -63,6 +68,10 @@ abbrev pub IsRecent : List ℕ → List (List ℕ) → List Kept → Type 0
 IsRecent own others calls = IsSome (kept_of own calls) → AreOf others (newer own calls)
 
 -- ---- two devices
+
+-- The call that the application is asked, if it is asked one, is of this activity.
+abbrev pub IsAskedOwn : List ℕ → AskedState → Type 0
+IsAskedOwn own asked = (question : Question) → question_in asked ≡ Some question → question.header.activity ≡ own
 
 -- A device with other stored answers.
 abbrev pub with_calls : {F : Type 0} → List Kept → State F → State F
@@ -97,7 +106,7 @@ pub record IsCalled {F : Type 0} (own : List ℕ) (others : List (List ℕ)) (ol
   pub unasked : old.station.named ≡ [] → new.live.rest.asked ≡ old.live.rest.asked
   pub like : new.live.rest.asked ≡ old.live.rest.asked → (alone : State F) → IsLike own others old alone → IsLike own others new alone
 
--- This holds of each call of at most three other activities, in any state of the device, whatever its flash does.
+-- This holds of each call of at most three other activities, and of each Read Implicit whose answer is not stored, in any state of the device, whatever its flash does.
 abbrev pub CallsLeave : {F : Type 0} {S : ℕ} → Flash F S → Type 0
 CallsLeave {F} as_flash = (own : List ℕ) (others : List (List ℕ)) (old new : State F) (octets : List ℕ) (sent : List (List ℕ)) (said : Note)
     → AreOthers own others → IsCallOf others old octets → Steps as_flash old (heard_in old.station.identity octets) sent said new

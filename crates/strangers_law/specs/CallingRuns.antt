@@ -23,7 +23,7 @@ pub data Occurrence : Type 0 where
   Uncalled : (one : Happening) → Occurrence
   Called : (octets : List ℕ) → Occurrence
 
--- The call has one of these other activities, and the application is not asked it. The device takes it as any frame, whatever its flash does. What it
+-- The call has one of these other activities, or its answer is not stored, and the application is not asked it. The device takes it as any frame, whatever its flash does. What it
 -- sends at it is not among the frames of both ends.
 abbrev pub Occurs : {F : Type 0} {S : ℕ} → Flash F S → List (List ℕ) → World F → Occurrence → World F → Type 0
 Occurs as_flash others before (Uncalled one) after = HappensAmong as_flash before one after
@@ -77,7 +77,8 @@ pub record IsRunBeside {F : Type 0} {S : ℕ} (as_flash : Flash F S) (others : L
 
 -- ---- the laws
 
--- This holds of each run with callers from the start of this set-up and this device. The calls of the whole run have at most three other activities.
+-- This holds of each run with callers from the start of this set-up and this device. The calls of the whole run whose answers are
+-- stored have at most three other activities.
 abbrev pub HoldsWithCallers : {F : Type 0} {S : ℕ} → Flash F S → Setup → Identity → (List (List ℕ) → World F → List (Occurrence × World F) → Type 0) → Type 0
 HoldsWithCallers {F} as_flash setup identity holds = CanMeet setup identity
     → (others : List (List ℕ)) (first : World F) (run : List (Occurrence × World F))

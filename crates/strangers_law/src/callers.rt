@@ -1,5 +1,6 @@
 //! A device and the calls of other stations: they change nothing but the stored answers and what is asked of the application, and at most three others
-//! leave the answer of the controller. And what holds of both ends alone holds with such calls too, if the application is not asked them.
+//! leave the answer of the controller. Read Implicit do not count for that if their answers are not stored. And what holds of both ends alone holds
+//! with such calls too, if the application is not asked them.
 ghost use Rattle.std.specs.Prelude.{◌≡◌, ◌⊎◌, map};
 ghost use Rattle.relations.specs.declared.phase.Phase.TheVariants.{Exchanging as in_exchange};
 ghost use Rattle.end_laws.specs.both.Steps.{IsPart};
@@ -20,7 +21,8 @@ use pn_values::Identity;
 /// function has no code.
 ///
 /// Premise: there are at most three other activities. A device stores the answers of the last four. After calls of four other activities the answer
-/// that is stored for the controller can be gone, and a call that the controller repeats is then carried out again.
+/// that is stored for the controller can be gone, and a call that the controller repeats is then carried out again. With the option
+/// `reads_not_kept` Read Implicit do not count: they may have any activity, and any number of stations may call them.
 pub fn callers_leave_a_device<F: Flash<S>, const S: usize>()
     // Such a call changes nothing but the stored answers and what is asked of the application: not the relation, the settings, the flash, the lamp, the
     // log, nor the time. If the application is not asked it, the device remains like any device that it was like before.
@@ -42,9 +44,10 @@ pub fn callers_leave_a_device<F: Flash<S>, const S: usize>()
 /// relation of the device are the same. So a clause of `both_ends` about these holds of the moves in a run with callers too: those of `worlds_start_up`
 /// are here, those of outputs, alarms and diagnoses in `callers_leave_exchanges`.
 ///
-/// Premises: the calls of the whole run have at most three other activities, as `callers_leave_a_device` says, and the application is asked none of
-/// them, as it never is at a station that names no records. While it is asked one, the device refuses the controller's own call for a record of the
-/// application as busy, which it asks in a run of both ends alone.
+/// Premises: the calls of the whole run have at most three other activities, as `callers_leave_a_device` says, not counting Read Implicit if their
+/// answers are not stored, and the application is asked none of them, as it never is at a station that names no records. While it is asked one, the
+/// device refuses the controller's own call for a record of the application as busy, or, if calls of the relation are asked first, refuses a Read
+/// Implicit in its place. In a run of both ends alone it asks the controller's call and refuses none.
 pub fn callers_leave_both_ends<F: Flash<S>, const S: usize>(setup: &Setup, identity: &Identity)
     // Beside each run with callers there is a run of both ends alone, in which the worlds differ in the stored answers of the others alone.
     ensures runs { RunsGoOnWithCallers F.Flash setup.now identity.now }

@@ -1,7 +1,8 @@
 -- What one turn of a device does: nothing; something that is no call; that a response confirms ApplicationReady; that a
 -- response is sent again; that a call is answered, with its operation, its outcome and the relation afterwards; that a call is asked of
--- the application, or refused while another one is; or that the call that is asked is answered.
-use Rattle.std.specs.Prelude.{◌≡◌, ◌⊎◌, ◌++◌, ℕ, Bool, false, List, [], ◌∷◌, Option, Some, None, option_map, Result, Ok, Err}
+-- the application, or refused while another one is; that the call that is asked is answered; or, with one of the options for that, that a
+-- Read Implicit that is asked is answered and its response is not stored, or gives way to a call of the relation.
+use Rattle.std.specs.Prelude.{◌≡◌, ◌⊎◌, ◌++◌, ℕ, Bool, true, false, List, [], ◌∷◌, Option, Some, None, option_map, Result, Ok, Err}
 use Rattle.std.specs.List.{AllByRecursion}
 use Rattle.frame_codec.specs.declared.udp.Caller.{Caller}
 use Rattle.rpc_core.specs.Cache.{Kept, kept_more, kept_of, looked, new}
@@ -24,7 +25,8 @@ use Rattle.records.specs.declared.writes.writing.Writing.TheVariants.{One, Each}
 use Rattle.records.specs.writes.Asked.{writing_of}
 use Rattle.records.specs.writes.Entry.{Entry}
 use Rattle.asked_records.specs.Answers.{unanswered_status}
-use Rattle.asked_records.specs.Asked.{asked_with, question_in}
+use Rattle.asked_records.specs.Asked.{asked_with, question_in, settled}
+use Rattle.asked_records.specs.Questions.{is_implicit}
 use Rattle.asked_records.specs.declared.names.RecordName.{RecordName}
 use Rattle.asked_records.specs.declared.question.Question.{Question}
 use Rattle.asked_records.specs.declared.question.Request.{Request as Wanted}
@@ -44,7 +46,7 @@ use Rattle.relations.specs.Numbers.{IsNumber}
 use Rattle.device_frames.specs.Heard.{Heard, Calls, Reported}
 use Rattle.device_frames.specs.Sent.{Sent, CallAnswer, Again, Exchanges, ReadyCall, PlugReadyCall}
 use Rattle.pn_values.specs.declared.set_item.BlockError.{BlockError}
-use Rattle.device_core.specs.Asking.{Asking, asking_of, kept_reply, question_of, reply_to}
+use Rattle.device_core.specs.Asking.{Asking, asking_of, kept_reply, question_of, refused_calls, refused_sent, reply_to}
 use Rattle.device_core.specs.Handled.{answer_from, kept_for, outcome_of, partner_of}
 use Rattle.device_core.specs.Machine.{link_behind, several_answer}
 use Rattle.device_core.specs.Several.{judged_each}
@@ -332,11 +334,43 @@ pub record Declines (station : Station) (live : Live) (heard : Heard) (after : R
   }
   pub sends : sent ≡ CallAnswer new_call.caller live.values.running.suite.address (answer_to new_call.call status []) ∷ []
 
+-- ---- Read Implicit
+
+-- its response is sent after what else is sent then, and not stored
+pub record Tells (station : Station) (live : Live) (heard : Heard) (question : Question) (after : Rest) (sent : List Sent) : Type 0 where
+  pub idle : (planned : Planned) → heard_as planned heard ≡ small.Idle
+  pub unstored : station.options.reads_not_kept ≡ true
+  pub settled : question_in after.asked ≡ None
+  pub status : Status
+  pub blocks : List ℕ
+  pub keeps : after.calls ≡ live.rest.calls
+  pub first : List Sent
+  pub others : AllByRecursion (IsOther live after.link) first
+  pub sends : sent ≡ first ++ reply_to live.values.running.suite.address question status blocks ∷ []
+
+-- it gives way to a new call of the relation, which is asked then: the response is that it is busy
+pub record GivesWay (station : Station) (live : Live) (heard : Heard) (question : Question) (after : Rest) (sent : List Sent) : Type 0 where
+  pub asking : Asking
+  pub new_call : IsForRecord station live heard asking
+  pub own_first : station.options.asks_own_first ≡ true
+  pub link : after.link ≡ live.rest.link
+  pub becomes : after.asked ≡ asked_with asking.0 asking.1 (settled live.rest.asked)
+  pub calls : after.calls ≡ refused_calls station.options station.identity live.values.running.suite.address Busy (Some question) live.rest.calls
+  pub sends : sent ≡ refused_sent station.options live.values.running.suite.address Busy (Some question) live.rest.calls
+
+-- a Read Implicit that is asked of the application is answered and the response is not stored, or it gives way to a call
+pub record Implicitly (station : Station) (live : Live) (heard : Heard) (after : Rest) (sent : List Sent) : Type 0 where
+  pub question : Question
+  pub asked : question_in live.rest.asked ≡ Some question
+  pub implicit : is_implicit question.request ≡ true
+  pub link : IsKeptOr live.rest.link after.link
+  pub does : Tells station live heard question after sent ⊎ GivesWay station live heard question after sent
+
 -- ---- a turn
 
--- What a step of a device does is one of these eight.
+-- What a step of a device does is one of these nine.
 abbrev pub Does : Station → Live → Heard → Rest → List Sent → Type 0
 Does station live heard after sent =
     Rests live after sent ⊎ (GoesBy live heard after sent ⊎ (Confirms live heard after sent ⊎ (Repeats live heard after sent
     ⊎ (Serves station live heard after sent ⊎ (Questions station live heard after sent
-    ⊎ (Declines station live heard after sent ⊎ Replies station live heard after sent))))))
+    ⊎ (Declines station live heard after sent ⊎ (Replies station live heard after sent ⊎ Implicitly station live heard after sent)))))))

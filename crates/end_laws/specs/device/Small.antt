@@ -26,6 +26,7 @@ use Rattle.records.specs.writes.Answer.{answer_of, outcomes_of}
 use Rattle.records.specs.writes.Entry.{Entry}
 use Rattle.records.specs.writes.Asked.{writing_of}
 use Rattle.asked_records.specs.Asked.{AskedState, question_in}
+use Rattle.asked_records.specs.Questions.{is_implicit}
 use Rattle.asked_records.specs.Judging.{asked_name}
 use Rattle.asked_records.specs.declared.names.RecordName.{RecordName}
 use Rattle.asked_records.specs.declared.question.Question.{Question}
@@ -72,9 +73,10 @@ small_of activity live = record {
   asked = asked_in live.rest.asked;
 }
 
--- what is asked of the application is a call of this activity
+-- what is asked of the application is a call of this activity, and no Read Implicit
 abbrev pub IsAskedOwn : List ℕ → AskedState → Type 0
-IsAskedOwn activity state = (question : Question) → question_in state ≡ Some question → question.header.activity ≡ activity
+IsAskedOwn activity state = (question : Question) → question_in state ≡ Some question
+    → (question.header.activity ≡ activity) × (is_implicit question.request ≡ false)
 
 -- ---- what it hears
 

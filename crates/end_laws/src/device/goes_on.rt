@@ -18,9 +18,9 @@ use records::refusals_are_not_done;
 /// A device refines its small machine, as far as a start-up is concerned. This is a law of the machine by which each
 /// step of a device is specified.
 pub fn device_goes_on()
-    // If the relation is in order, what is asked of the application is of this activity, each call is one of the start-up or of the
-    // application, and each message that is sent is heard as it is meant, each step of a device is a step of the small machine,
-    // whatever the device hears and whatever the flash did. Without a relation it is in order, and each step keeps that
+    // If the relation is in order, what is asked of the application is of this activity and no Read Implicit, each call is one of the
+    // start-up or of the application, and each message that is sent is heard as it is meant, each step of a device is a step of the
+    // small machine, whatever the device hears and whatever the flash did. Without a relation it is in order, and each step keeps that
     // (`Turn.orderly`), as it keeps what is asked of this activity (`device_turns`).
     ensures { (rules : Rules TakenRecord Request) (activity : List ℕ) (outcomes : List Outcome) (station : Station) (live : Live)
         (heard : Heard) → IsOrderlyIn live.rest.link → IsAskedOwn activity live.rest.asked

@@ -30,7 +30,8 @@ ghost use Rattle.end_laws.specs.device.Turn.{BeginsNumbered, IsRaise, Turn, alar
 pub fn device_turns()
     // If each call that a device hears is one of the start-up or of the application: it does nothing, something that is no call, what the
     // response to ApplicationReady confirms, or what a call with this operation and this outcome does to the relation, or it repeats a
-    // response, or it asks a call of its application, refuses it while another one is asked, or answers the one that is asked; what its
+    // response, or it asks a call of its application, refuses it while another one is asked, or answers the one that is asked; with the
+    // options for that, a Read Implicit that is asked is answered and the response is not stored, or it gives way to a call; what its
     // outputs and alarms depend on stays the same, or changes as a Connect, a cyclic frame, an alarm frame, an alarm, a pull, a plug or a
     // unit of time changes it; what is plugged changes by a pull or a plug alone; a response that is newly stored was sent now; its
     // relation stays in order; each message is owed; and what is asked of the application was asked before, or is the call that is heard.
@@ -38,7 +39,7 @@ pub fn device_turns()
     ensures turn { (rules : Rules TakenRecord Request) (activity : List ℕ) (outcomes : List Outcome) (station : Station) (live : Live)
         (heard : Heard) → IsPlanned rules activity station.named live.rest.real heard
         → Turn station live heard (heard_step outcomes station live heard).live.rest (heard_step outcomes station live heard).sent }
-    // What is asked of the application is a call of this activity, if it was before.
+    // What is asked of the application is a call of this activity, and no Read Implicit, if it was before.
     ensures own { (rules : Rules TakenRecord Request) (activity : List ℕ) (outcomes : List Outcome) (station : Station) (live : Live)
         (heard : Heard) → IsPlanned rules activity station.named live.rest.real heard
         → IsAskedOwn activity live.rest.asked → IsAskedOwn activity (heard_step outcomes station live heard).live.rest.asked }
