@@ -679,9 +679,12 @@ impl Answering {
             (answer_to address serving.now (came_with came self.old.blocks.items))) self.old.kept }
     {
         self.send(identity, address, serving, came, outbox);
-        let header = &serving.call.header;
-        self.kept
-            .keep(&header.activity, header.sequence, &outbox.as_slice()[0]);
+        let call = serving.call;
+        self.kept.keep(
+            &call.header.activity,
+            call.header.sequence,
+            &outbox.as_slice()[0],
+        );
     }
 
     // Puts the answer to a new call into the empty outbox.

@@ -79,7 +79,7 @@ returns-in-New-clause-steps g c = λ heard is.
     let found : looked call.header.activity call.header.sequence here.live.rest.calls ≡ new =
     rw (← c.self.view_is) (rw c.in-New.is at c.look.ensures.reported) in
     let reported : looked_if (is_kept here.station.options operation) call.header.activity call.header.sequence here.live.rest.calls ≡ new = rw is_stored found in
-    c.serve_unanswered.ensures.steps heard
+    c.serve_unanswered-in-New.ensures.steps heard
     (is ∙ ap (handled_call here.station here.live caller call) some ∙ ap (handled_blocks here.station here.live caller call operation) counted
     ∙ ap (handled_looked here.station here.live caller call c.in-Some-blocks.blocks.now operation) reported)
 
