@@ -1,5 +1,5 @@
 -- A relation that a device makes has the submodules that are expected and plugged.
-use Rattle.std.proofs.Common.{◌≡◌, inl, inr, ℕ, List, Option, Some, None, option_map, Result, Ok, Err, sym, ap, subst, ◌∙◌, refl}
+use Rattle.std.proofs.Common.{◌≡◌, ◌⊎◌, inl, inr, ℕ, true, false, List, Option, Some, None, option_map, Result, Ok, Err, sym, ap, subst, ◌∙◌, refl}
 use Rattle.frame_codec.specs.declared.udp.Caller.{Caller}
 use Rattle.records.specs.declared.status.call_fault.CallFault.{CallFault}
 use Rattle.records.specs.declared.status.operation.Operation.{Operation}
@@ -9,9 +9,9 @@ use Rattle.relations.specs.Phases.{made_of, restarted}
 use Rattle.relations.specs.RelationState.{RelationState}
 use Rattle.device_frames.specs.Heard.{Heard}
 use Rattle.device_frames.specs.Sent.{Sent}
-use Rattle.device_core.specs.Handled.{partner_of}
+use Rattle.device_core.specs.Handled.{Handled, Moves, partner_of}
 use Rattle.device_core.specs.State.{Station, Live, Rest}
-use Rattle.end_laws.specs.device.Does.{Does, IsEffect, IsKeptOr, IsRestarted, with_more}
+use Rattle.end_laws.specs.device.Does.{Does, GivesWay, IsEffect, IsKeptOr, IsRestarted, Replies, with_more}
 use Rattle.end_laws.specs.device.Small.{link_of}
 use Rattle.both_ends.proofs.ExchangeLists.{none_some, some_is}
 use Rattle.both_ends.proofs.ExchangeStated.{IsStated, made_stated}
@@ -59,4 +59,12 @@ module _ (station : Station) (live : Live) (heard : Heard) (after : Rest) (sent 
   stated_made (inr (inr (inr (inr (inr (inl it)))))) = none_after (ap (λ (r : Rest). r.link) it.becomes ∙ alone)
   stated_made (inr (inr (inr (inr (inr (inr (inl it))))))) = none_after (ap (λ (r : Rest). r.link) it.becomes ∙ alone)
   stated_made (inr (inr (inr (inr (inr (inr (inr (inl it)))))))) = none_after (kept_none it.link)
-  stated_made (inr (inr (inr (inr (inr (inr (inr (inr it)))))))) = none_after (kept_none it.link)
+  stated_made (inr (inr (inr (inr (inr (inr (inr (inr it)))))))) = none_after (by_kind it.does)
+    where
+      same_rest : (one other : Rest) (messages more : List Sent) → ◌≡◌ {A = Handled} (Moves one messages) (Moves other more) → one ≡ other
+      same_rest one other messages more e = cc
+
+      by_kind : ((station.options.reads_not_kept ≡ true) × Replies false station live heard after sent)
+          ⊎ ((station.options.asks_own_first ≡ true) × GivesWay station live heard it.question after sent) → after.link ≡ None
+      by_kind (inl replies) = kept_none replies.1.link
+      by_kind (inr gives) = ap (λ (r : Rest). r.link) (same_rest after _ sent _ gives.1.moves) ∙ alone

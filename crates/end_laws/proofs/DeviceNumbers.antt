@@ -1,5 +1,5 @@
 -- The number of a relation that begins.
-use Rattle.std.specs.Prelude.{◌≡◌, ℕ, List, Option, Some, None, option_map, Result, Ok, Err}
+use Rattle.std.specs.Prelude.{◌≡◌, ◌⊎◌, ℕ, true, false, List, Option, Some, None, option_map, Result, Ok, Err}
 use Rattle.std.proofs.Common.{refl, sym, ap, subst, ◌∙◌, inl, inr, arith}
 use Rattle.frame_codec.specs.declared.udp.Caller.{Caller}
 use Rattle.records.specs.declared.status.call_fault.CallFault.{CallFault}
@@ -13,8 +13,8 @@ use Rattle.relations.specs.declared.options.DeviceOptions.{DeviceOptions}
 use Rattle.device_frames.specs.Heard.{Heard}
 use Rattle.device_frames.specs.Sent.{Sent}
 use Rattle.device_core.specs.State.{Live, Rest, Station}
-use Rattle.device_core.specs.Handled.{number_now}
-use Rattle.end_laws.specs.device.Does.{Does, IsEffect, IsKeptOr, with_more}
+use Rattle.device_core.specs.Handled.{Handled, Moves, number_now}
+use Rattle.end_laws.specs.device.Does.{Does, GivesWay, IsEffect, IsKeptOr, Replies, with_more}
 use Rattle.end_laws.specs.device.Small.{link_of}
 use Rattle.end_laws.specs.device.Turn.{BeginsNumbered, IsNumbered}
 
@@ -75,6 +75,9 @@ kept_numbered options before after kept = λ link none some. by_link link none s
     by_link link none some (inr (inl e)) = absurd (some_none (link_of link) (sym (ap (λ (l : Option RelationState). option_map link_of l) some) ∙ e))
     by_link link none some (inr (inr it)) = absurd (some_none it.link (sym it.was ∙ none))
 
+same_rest : (one other : Rest) (sent more : List Sent) → ◌≡◌ {A = Handled} (Moves one sent) (Moves other more) → one ≡ other
+same_rest one other sent more e = cc
+
 pub does_numbered : (station : Station) (live : Live) (heard : Heard) (after : Rest) (sent : List Sent) → Does station live heard after sent
     → BeginsNumbered station.options live.rest.link after.link
 does_numbered station live heard after sent (inl it) = same station.options live.rest.link after.link (ap (λ (r : Rest). r.link) it.same)
@@ -88,4 +91,10 @@ does_numbered station live heard after sent (inr (inr (inr (inr (inr (inl it))))
 does_numbered station live heard after sent (inr (inr (inr (inr (inr (inr (inl it))))))) = same station.options live.rest.link after.link
     (ap (λ (r : Rest). r.link) it.becomes)
 does_numbered station live heard after sent (inr (inr (inr (inr (inr (inr (inr (inl it)))))))) = kept_numbered station.options live.rest.link after.link it.link
-does_numbered station live heard after sent (inr (inr (inr (inr (inr (inr (inr (inr it)))))))) = kept_numbered station.options live.rest.link after.link it.link
+does_numbered station live heard after sent (inr (inr (inr (inr (inr (inr (inr (inr it)))))))) = by_kind it.does
+  where
+    by_kind : ((station.options.reads_not_kept ≡ true) × Replies false station live heard after sent)
+        ⊎ ((station.options.asks_own_first ≡ true) × GivesWay station live heard it.question after sent)
+        → BeginsNumbered station.options live.rest.link after.link
+    by_kind (inl replies) = kept_numbered station.options live.rest.link after.link replies.1.link
+    by_kind (inr gives) = same station.options live.rest.link after.link (ap (λ (r : Rest). r.link) (same_rest after _ sent _ gives.1.moves))

@@ -20,6 +20,7 @@ use Rattle.records.specs.declared.writes.taken.TakenRecord.{TakenRecord}
 use Rattle.records.specs.declared.writes.write.Effect.TheVariants.{Stores, Keeps}
 use Rattle.records.specs.declared.writes.writing.Writing.TheVariants.{One, Each}
 use Rattle.record_blocks.specs.declared.write_record.IodWriteReq.{IodWriteReq}
+use Rattle.asked_records.specs.Answers.{unanswered_status}
 use Rattle.asked_records.specs.Asked.{AskedState, question_in}
 use Rattle.asked_records.specs.Judging.{asked_name, asked_write, write_found}
 use Rattle.asked_records.specs.Questions.{call_of, is_implicit, operation_of as operation_asked}
@@ -27,6 +28,7 @@ use Rattle.asked_records.specs.declared.names.RecordName.{RecordName}
 use Rattle.asked_records.specs.declared.question.Question.{Question}
 use Rattle.asked_records.specs.declared.question.Request.{Request as Wanted}
 use Rattle.asked_records.specs.declared.question.Request.TheVariants as wanted
+use Rattle.asked_records.specs.declared.status.Unanswered.TheVariants.{Busy}
 use Rattle.relations.specs.declared.ready.Ready.{Ready}
 use Rattle.relations.specs.declared.phase.Partner.{Partner}
 use Rattle.relations.specs.declared.phase.Phase.{Phase}
@@ -47,7 +49,7 @@ use Rattle.end_laws.specs.both.Small.{Rules, ToDevice}
 use Rattle.end_laws.specs.both.Steps.{IsNew, IsSameOrNone, Carries, Comes, Forgets, GoesBy as SmallGoesBy, PassesOn, TakesAny, TakesRecords, SaysAtMost, IsReady, IsDull, DeviceSteps}
 use Rattle.relations.specs.Phases.{Named, parameterized_from, restarted, updated}
 use Rattle.end_laws.specs.device.Small.{AreDone, IsAskedOwn, Planned, asked_in, phase_in, link_of, kept_in, small_of, written_by, asked_by, heard_as, is_positive, IsPlannedAs, IsPlannedCall, IsPlanned, IsHeardAs, IsWritingOf}
-use Rattle.end_laws.specs.device.Does.{AreReadied, Confirms, Declines, Does, Following, GoesBy, IsEffect, IsExchange, IsKeptOr, IsOther, IsReadied, IsUncalled, Plugging, Questions, Readying, Repeats, Replies, Rests, Serves, Stored, Written, WrittenEach, readied_from, with_more}
+use Rattle.end_laws.specs.device.Does.{AreReadied, Confirms, Declines, Does, busy_answer, Following, GoesBy, IsEffect, IsExchange, IsKeptOr, IsOther, IsReadied, IsUncalled, Plugging, Questions, Readying, Repeats, Replies, Rests, Serves, Stored, Written, WrittenEach, readied_from, with_more}
 use Rattle.end_laws.specs.device.Orderly.{IsOrderlyIn}
 use Rattle.end_laws.specs.device.Owed.{IsAskedLater, IsAsking}
 use Rattle.end_laws.proofs.BothKept.{may_come}
@@ -596,9 +598,9 @@ module _ (refusals_are_not_done : RefusalsAreNotDone) (rules : Rules TakenRecord
         let one = it.new_call in
         let call = one.call in
         let own_call = planned_call one.caller one.address call one.is in
-        let message = CallAnswer one.caller live.values.running.suite.address (answer_to call it.status []) in
+        let message = busy_answer live one.caller call one.which in
         let all_heard : AreHeard (message ∷ []) = subst (λ (messages : List Sent). AreHeard messages) it.sends all in
-        let refused : (is_done it.status && rules.grants call.header.sequence []) ≡ false = ap
+        let refused : (is_done (unanswered_status one.which Busy) && rules.grants call.header.sequence []) ≡ false = ap
         (λ (b : Bool). b && rules.grants call.header.sequence []) it.undone in
         hears_call one.caller one.address call one.blocks one.is one.counted (inl (record {
           new = fresh_new call own_call.own one.fresh;
@@ -616,7 +618,7 @@ module _ (refusals_are_not_done : RefusalsAreNotDone) (rules : Rules TakenRecord
           asked = inl (ap (λ (r : Rest). asked_in r.asked) it.becomes);
         }))
 
-    replies : Replies station live heard after sent → Goes (heard_as rules.is_planned heard) after sent
+    replies : Replies true station live heard after sent → Goes (heard_as rules.is_planned heard) after sent
     replies it =
         let question = it.question in
         let message = reply_to live.values.running.suite.address question it.status it.blocks in

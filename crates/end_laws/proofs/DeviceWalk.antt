@@ -751,18 +751,23 @@ module _ (rules : Rules TakenRecord Request) (activity : List ℕ) (station : St
                   question = question;
                   asked = asked;
                   implicit = there.0;
-                  link = kept;
-                  does = inl (record {
-                    idle = idle;
-                    unstored = there.1;
-                    settled = settled;
-                    status = status;
-                    blocks = blocks;
-                    keeps = refl;
-                    first = first;
-                    others = others;
-                    sends = refl;
-                  });
+                  does = inl (
+                    there.1,
+                    record {
+                      idle = idle;
+                      question = question;
+                      asked = asked;
+                      settled = settled;
+                      fresh = refl;
+                      link = kept;
+                      status = status;
+                      blocks = blocks;
+                      keeps = refl;
+                      first = first;
+                      others = others;
+                      sends = refl;
+                    },
+                  );
                 }))))))));
                 is = is (reply ∷ []) (tt, tt);
                 diagnoses = inl refl;
@@ -1863,16 +1868,7 @@ module _ (rules : Rules TakenRecord Request) (activity : List ℕ) (station : St
                   question = other;
                   asked = asked;
                   implicit = implicit;
-                  link = inl refl;
-                  does = inr (record {
-                    asking = asking;
-                    new_call = for_record;
-                    own_first = own_first;
-                    link = refl;
-                    becomes = refl;
-                    calls = refl;
-                    sends = refl;
-                  });
+                  does = inr (own_first, record { asking = asking; new_call = for_record; moves = refl });
                 }))))))));
                 is = inl (record { link = inl refl; calm = refused.calm });
                 diagnoses = inl refl;
@@ -1896,9 +1892,6 @@ module _ (rules : Rules TakenRecord Request) (activity : List ℕ) (station : St
             new_call = for_record;
             other = other;
             busy = is;
-            status = unanswered_status which Busy;
-            is_busy = refl;
-            sized = busy_sized which;
             undone = busy_undone which;
             becomes = refl;
             sends = refl;

@@ -354,7 +354,7 @@ module _ {F : Type 0} (so : DeviceSo) (hears : HearsSo) (blocks_so : BlocksSo) {
         first_tells (inr (inr (inr (inr (inl it))))) = call_tells it
         first_tells (inr (inr (inr (inr (inr (inl it)))))) = absurd (nil_cons answered.frame answered.others (frames_of [] it.silent))
         first_tells (inr (inr (inr (inr (inr (inr (inl it))))))) =
-            one_tells it.new_call.caller live.values.running.suite.address (answer_to it.new_call.call it.status []) [] it.sends (λ answers done. empty_tells Clear)
+            one_tells it.new_call.caller live.values.running.suite.address _ [] it.sends (λ answers done. empty_tells Clear)
         first_tells (inr (inr (inr (inr (inr (inr (inr (inr it)))))))) = absurd (false≢true (sym (follows.own it.question it.asked).1 ∙ it.implicit))
         first_tells (inr (inr (inr (inr (inr (inr (inr (inl it)))))))) = absurd (idle_call sequence ask (sym (it.idle (is_planned setup)) ∙ is))
 

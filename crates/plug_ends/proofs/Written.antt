@@ -56,7 +56,7 @@ use Rattle.relations.specs.Phases.{Records, keeping, kept_in}
 use Rattle.relations.specs.RelationState.{RelationState, passes_on, uuid_of}
 use Rattle.device_frames.specs.Heard.{Calls, Heard, Reported}
 use Rattle.device_frames.specs.Sent.{Sent}
-use Rattle.device_core.specs.Handled.{outcome_of}
+use Rattle.device_core.specs.Handled.{Handled, Moves, outcome_of}
 use Rattle.device_core.specs.State.{Live, Rest, Station}
 use Rattle.device_core.specs.Machine.{heard_step}
 use Rattle.controller_messages.specs.declared.plug_request.PlugRequest.{PlugRequest}
@@ -65,7 +65,7 @@ use Rattle.controller_messages.specs.declared.setup.Setup.{Setup}
 use Rattle.controller_messages.specs.PlugRequests.{plug_blocks, plug_call, plug_operation, plug_write_blocks}
 use Rattle.end_laws.specs.both.Small as small
 use Rattle.end_laws.specs.both.Small.{Rules}
-use Rattle.end_laws.specs.device.Does.{Does, Following, GivesWay, Implicitly, IsEffect, IsForRecord, IsUncalled, Plugging, Readying, Serves, Tells, Written, readied_from}
+use Rattle.end_laws.specs.device.Does.{Does, Following, GivesWay, Implicitly, IsEffect, IsForRecord, IsUncalled, Plugging, Readying, Replies, Serves, Written, readied_from}
 use Rattle.end_laws.specs.device.Small.{IsPlanned, IsPlannedAs, Planned, heard_as}
 use Rattle.end_laws.specs.device.Turn.{Turn}
 use Rattle.end_laws.specs.hearing.Stations.{IsSetup}
@@ -489,14 +489,19 @@ module _ (read : (block : Block) (rest : List ℕ) → CanBeWritten block → bl
           by_served (inr (inl one)) = one
           by_served (inr (inr same)) = absurd (false≢true (sym (keeps_all same.1.0 same.1.1) ∙ same.1.2))
 
+    same_moves : (one other : Rest) (messages more : List Sent) → ◌≡◌ {A = Handled} (Moves one messages) (Moves other more)
+        → (one ≡ other) × (messages ≡ more)
+    same_moves one other messages more e = (cc, cc)
+
     -- a call is heard, so a Read Implicit that is asked gives way, if it does not stay
     given_way : (it : Implicitly station live heard after sent) → GivesWay station live heard it.question after sent
     given_way it = by_kind it.does
       where
-        by_kind : Tells station live heard it.question after sent ⊎ GivesWay station live heard it.question after sent
+        by_kind : ((station.options.reads_not_kept ≡ true) × Replies false station live heard after sent)
+            ⊎ ((station.options.asks_own_first ≡ true) × GivesWay station live heard it.question after sent)
             → GivesWay station live heard it.question after sent
-        by_kind (inl tells) = absurd (call_not_idle (sym (heard_is caller address) ∙ tells.idle none_planned))
-        by_kind (inr gives) = gives
+        by_kind (inl replies) = absurd (call_not_idle (sym (heard_is caller address) ∙ replies.1.idle none_planned))
+        by_kind (inr gives) = gives.1
 
     pub any_came : Same ⊎ OneMore
     any_came = by_does (turns rules setup.activity outcomes station live heard planned).does
@@ -517,7 +522,7 @@ module _ (read : (block : Block) (rest : List ℕ) → CanBeWritten block → bl
         by_does (inr (inr (inr (inr (inl it))))) = by_served (served it)
         by_does (inr (inr (inr (inr (inr (inl it)))))) = inl (ap (λ (r : Rest). taken_in r.link) it.becomes)
         by_does (inr (inr (inr (inr (inr (inr (inl it))))))) = inl (ap (λ (r : Rest). taken_in r.link) it.becomes)
-        by_does (inr (inr (inr (inr (inr (inr (inr (inr it)))))))) = inl (ap taken_in (given_way it).link)
+        by_does (inr (inr (inr (inr (inr (inr (inr (inr it)))))))) = inl (ap (λ (r : Rest). taken_in r.link) (same_moves after _ sent _ (given_way it).moves).0)
         by_does (inr (inr (inr (inr (inr (inr (inr (inl it)))))))) = absurd (call_not_idle (sym (heard_is caller address) ∙ it.idle none_planned))
 
     abbrev Each_so : List Sent → Type 0
@@ -563,7 +568,7 @@ module _ (read : (block : Block) (rest : List ℕ) → CanBeWritten block → bl
         by_does (inr (inr (inr (inr (inr (inr (inl it))))))) =
             subst (λ (messages : List Sent). Each_so messages) (sym it.sends) ((λ positive. absurd (false≢true (sym it.undone ∙ positive))), tt)
         by_does (inr (inr (inr (inr (inr (inr (inr (inr it)))))))) =
-            subst (λ (messages : List Sent). Each_so messages) (sym (given_way it).sends) (busy_so it.question)
+            subst (λ (messages : List Sent). Each_so messages) (sym (same_moves after _ sent _ (given_way it).moves).1) (busy_so it.question)
         by_does (inr (inr (inr (inr (inr (inr (inr (inl it)))))))) = absurd (call_not_idle (sym (heard_is caller address) ∙ it.idle none_planned))
 
     -- it is not asked of the application, whose records are others

@@ -35,7 +35,9 @@ use Rattle.relations.specs.RelationState.{RelationState}
 use Rattle.relations.specs.declared.ready.Ready.{Ready}
 use Rattle.device_frames.specs.Heard.{Calls, Heard, Reported}
 use Rattle.device_frames.specs.Sent.{Again, CallAnswer, Exchanges, PlugReadyCall, ReadyCall, Sent, bytes_of}
+use Rattle.asked_records.specs.Answers.{unanswered_status}
 use Rattle.asked_records.specs.Asked.{question_in}
+use Rattle.asked_records.specs.declared.status.Unanswered.TheVariants.{Busy}
 use Rattle.asked_records.specs.Questions.{call_of, is_implicit}
 use Rattle.asked_records.specs.declared.question.Question.{Question}
 use Rattle.rpc_core.specs.declared.response.Status.{Status}
@@ -49,7 +51,7 @@ use Rattle.controller_messages.specs.declared.setup.Setup.{Setup}
 use Rattle.controller_messages.specs.Heard.{Responds}
 use Rattle.controller_messages.specs.PlugRequests.{plug_call}
 use Rattle.controller_messages.specs.Requests.{blocks_of, call_for, write_count}
-use Rattle.end_laws.specs.device.Does.{AreReadied, Connected, Declines, Does, Following, IsEffect, IsExchange, IsOther, Plugging, Readying, Replies, Serves}
+use Rattle.end_laws.specs.device.Does.{busy_answer, AreReadied, Connected, Declines, Does, Following, IsEffect, IsExchange, IsOther, Plugging, Readying, Replies, Serves}
 use Rattle.end_laws.specs.device.Does.{readied_from}
 use Rattle.end_laws.specs.device.Owed.{IsOfRelation}
 use Rattle.end_laws.specs.hearing.Stations.{IsCalled}
@@ -318,15 +320,15 @@ module _ (setup : Setup) (Holds : Chosen → Type 0) (silence : ℕ) (station : 
   declined : (heard : Heard) (after : Rest) (sent : List Sent) → Declines station live heard after sent → Went after sent
   declined heard after sent it =
       let call = it.new_call.call in
-      let message : Sent = CallAnswer it.new_call.caller live.values.running.suite.address (answer_to call it.status []) in (
-        subst (AllByRecursion Saying) (sym it.sends) (refused_says (answer_to call it.status []) it.undone, tt),
+      let message = busy_answer live it.new_call.caller call it.new_call.which in (
+        subst (AllByRecursion Saying) (sym it.sends) (refused_says (answer_to call (unanswered_status it.new_call.which Busy) []) it.undone, tt),
         more_stored after.calls (kept_for station.identity call message) [] message [] sent (ap (λ (r : Rest). r.calls) it.becomes) refl it.sends,
       )
 
   replied : (heard : Heard) (after : Rest) (sent : List Sent) → AllLast setup silence live.rest.link
       → ((question : Question) → question_in live.rest.asked ≡ Some question → question.header.activity ≡ setup.activity
       → (question.header.sequence == 0) ≡ false)
-      → AllByRecursion IsSizedIfPlug sent → Replies station live heard after sent → Went after sent
+      → AllByRecursion IsSizedIfPlug sent → Replies true station live heard after sent → Went after sent
   replied heard after sent lasts others sized it =
       let reply = reply_to live.values.running.suite.address it.question it.status it.blocks in (
         subst (AllByRecursion Saying) (sym it.sends)

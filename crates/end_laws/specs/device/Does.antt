@@ -46,8 +46,8 @@ use Rattle.relations.specs.Numbers.{IsNumber}
 use Rattle.device_frames.specs.Heard.{Heard, Calls, Reported}
 use Rattle.device_frames.specs.Sent.{Sent, CallAnswer, Again, Exchanges, ReadyCall, PlugReadyCall}
 use Rattle.pn_values.specs.declared.set_item.BlockError.{BlockError}
-use Rattle.device_core.specs.Asking.{Asking, asking_of, kept_reply, question_of, refused_calls, refused_sent, reply_to}
-use Rattle.device_core.specs.Handled.{answer_from, kept_for, outcome_of, partner_of}
+use Rattle.device_core.specs.Asking.{Asking, asking_of, kept_if, kept_reply, looked_if, question_of, reply_to}
+use Rattle.device_core.specs.Handled.{Moves, answer_from, handled_question, kept_behind, kept_for, outcome_of, partner_of}
 use Rattle.device_core.specs.Machine.{link_behind, several_answer}
 use Rattle.device_core.specs.Several.{judged_each}
 use Rattle.device_core.specs.State.{Live, Rest, Station}
@@ -116,17 +116,17 @@ pub record GoesBy (live : Live) (heard : Heard) (after : Rest) (sent : List Sent
   pub asked : IsSameOrNone (question_in live.rest.asked) (question_in after.asked)
 
 -- The call that is asked of the application is answered, by the application or by the device as no answer came in time: the response is
--- sent after what else is sent then, and stored. No later call of its activity was answered meanwhile.
-pub record Replies (station : Station) (live : Live) (heard : Heard) (after : Rest) (sent : List Sent) : Type 0 where
+-- sent after what else is sent then, and stored or not. If it is stored, no later call of its activity was answered meanwhile.
+pub record Replies (is_stored : Bool) (station : Station) (live : Live) (heard : Heard) (after : Rest) (sent : List Sent) : Type 0 where
   pub idle : (planned : Planned) → heard_as planned heard ≡ small.Idle
   pub question : Question
   pub asked : question_in live.rest.asked ≡ Some question
   pub settled : question_in after.asked ≡ None
-  pub fresh : looked question.header.activity question.header.sequence live.rest.calls ≡ new
+  pub fresh : looked_if is_stored question.header.activity question.header.sequence live.rest.calls ≡ new
   pub link : IsKeptOr live.rest.link after.link
   pub status : Status
   pub blocks : List ℕ
-  pub keeps : after.calls ≡ kept_more 4
+  pub keeps : after.calls ≡ kept_if is_stored
       (kept_reply station.identity question (reply_to live.values.running.suite.address question status blocks)) live.rest.calls
   pub first : List Sent
   pub others : AllByRecursion (IsOther live after.link) first
@@ -317,54 +317,35 @@ pub record Questions (station : Station) (live : Live) (heard : Heard) (after : 
   pub becomes : after ≡ record live.rest { asked = asked_with asking.0 asking.1 live.rest.asked }
   pub silent : sent ≡ []
 
+-- The response to a call of this operation that is refused while another one is asked.
+abbrev pub busy_answer : Live → Caller → Call → Operation → Sent
+busy_answer live caller call which = CallAnswer caller live.values.running.suite.address (answer_to call (unanswered_status which Busy) [])
+
 -- a new call for a record of the application is refused while another one is asked, and the response is stored
 pub record Declines (station : Station) (live : Live) (heard : Heard) (after : Rest) (sent : List Sent) : Type 0 where
   pub asking : Asking
   pub new_call : IsForRecord station live heard asking
   pub other : Question
   pub busy : question_in live.rest.asked ≡ Some other
-  pub status : Status
-  pub is_busy : status ≡ unanswered_status new_call.which Busy
-  pub sized : IsStatus status
-  pub undone : is_done status ≡ false
-  pub becomes : after ≡ record live.rest {
-    calls = kept_more 4
-        (kept_for station.identity new_call.call (CallAnswer new_call.caller live.values.running.suite.address (answer_to new_call.call status [])))
-        live.rest.calls;
-  }
-  pub sends : sent ≡ CallAnswer new_call.caller live.values.running.suite.address (answer_to new_call.call status []) ∷ []
+  pub undone : is_done (unanswered_status new_call.which Busy) ≡ false
+  pub becomes : after ≡ kept_behind station.identity live.rest new_call.call (busy_answer live new_call.caller new_call.call new_call.which) live.rest.link
+  pub sends : sent ≡ busy_answer live new_call.caller new_call.call new_call.which ∷ []
 
 -- ---- Read Implicit
 
--- its response is sent after what else is sent then, and not stored
-pub record Tells (station : Station) (live : Live) (heard : Heard) (question : Question) (after : Rest) (sent : List Sent) : Type 0 where
-  pub idle : (planned : Planned) → heard_as planned heard ≡ small.Idle
-  pub unstored : station.options.reads_not_kept ≡ true
-  pub settled : question_in after.asked ≡ None
-  pub status : Status
-  pub blocks : List ℕ
-  pub keeps : after.calls ≡ live.rest.calls
-  pub first : List Sent
-  pub others : AllByRecursion (IsOther live after.link) first
-  pub sends : sent ≡ first ++ reply_to live.values.running.suite.address question status blocks ∷ []
-
--- it gives way to a new call of the relation, which is asked then: the response is that it is busy
+-- a Read Implicit that is asked gives way to a new call of the relation, which is asked then: the response is that it is busy
 pub record GivesWay (station : Station) (live : Live) (heard : Heard) (question : Question) (after : Rest) (sent : List Sent) : Type 0 where
   pub asking : Asking
   pub new_call : IsForRecord station live heard asking
-  pub own_first : station.options.asks_own_first ≡ true
-  pub link : after.link ≡ live.rest.link
-  pub becomes : after.asked ≡ asked_with asking.0 asking.1 (settled live.rest.asked)
-  pub calls : after.calls ≡ refused_calls station.options station.identity live.values.running.suite.address Busy (Some question) live.rest.calls
-  pub sends : sent ≡ refused_sent station.options live.values.running.suite.address Busy (Some question) live.rest.calls
+  pub moves : Moves after sent ≡ handled_question station live asking.0 (Some question) (Some (asked_with asking.0 asking.1 (settled live.rest.asked)))
 
--- a Read Implicit that is asked of the application is answered and the response is not stored, or it gives way to a call
+-- a Read Implicit that is asked of the application is answered and its response is not stored, or it gives way, each with its option
 pub record Implicitly (station : Station) (live : Live) (heard : Heard) (after : Rest) (sent : List Sent) : Type 0 where
   pub question : Question
   pub asked : question_in live.rest.asked ≡ Some question
   pub implicit : is_implicit question.request ≡ true
-  pub link : IsKeptOr live.rest.link after.link
-  pub does : Tells station live heard question after sent ⊎ GivesWay station live heard question after sent
+  pub does : ((station.options.reads_not_kept ≡ true) × Replies false station live heard after sent)
+      ⊎ ((station.options.asks_own_first ≡ true) × GivesWay station live heard question after sent)
 
 -- ---- a turn
 
@@ -373,4 +354,4 @@ abbrev pub Does : Station → Live → Heard → Rest → List Sent → Type 0
 Does station live heard after sent =
     Rests live after sent ⊎ (GoesBy live heard after sent ⊎ (Confirms live heard after sent ⊎ (Repeats live heard after sent
     ⊎ (Serves station live heard after sent ⊎ (Questions station live heard after sent
-    ⊎ (Declines station live heard after sent ⊎ (Replies station live heard after sent ⊎ Implicitly station live heard after sent)))))))
+    ⊎ (Declines station live heard after sent ⊎ (Replies true station live heard after sent ⊎ Implicitly station live heard after sent)))))))
