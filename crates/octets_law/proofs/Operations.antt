@@ -184,7 +184,7 @@ other_name activity sequence other state is once = by_standing state.standing is
         subst (λ (q : Question). pointwise nat_eq (q.header.sequence ∷ q.header.activity) (sequence ∷ activity) ≡ false) (same standing.question other is)
         (turned (pointwise nat_eq standing.question.header.activity activity) (standing.question.header.sequence == sequence) once)
 
--- The answer to the call that is displaced, if it is sent, is none to the call that displaces it.
+-- The answer to the call that is displaced, if it is sent, does not answer the call that displaces it.
 pub refused_statuses : (options : DeviceOptions) (identity : Identity) (address octets : List ℕ) (reason : Unanswered) (displaced : Option Question)
     (calls : List Kept)
     → ((other : Question) → displaced ≡ Some other → pointwise nat_eq (other.header.sequence ∷ other.header.activity) (called octets) ≡ false)

@@ -435,5 +435,5 @@ fn reads_that_are_not_stored_take_no_place() {
         }
     }
     // A reader of the other rule finds another stored answer, or an answer that is owed.
-    assert!(mistaken > 100, "{mistaken}");
+    assert!(mistaken > 40, "{mistaken}");
 }
