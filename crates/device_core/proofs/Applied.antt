@@ -1,5 +1,5 @@
 -- What the application says, case by case, is local.
-use Rattle.std.proofs.Common.{◌≡◌, ◌≤◌, ◌==◌, ◌⊎◌, ◌∙◌, ◌++◌, ℕ, Bool, true, false, cond, length, Result, Ok, Err, ap, arith, List, [], ◌∷◌, Option, Some, None, option_map, if◌then◌else◌, inl, inr, refl}
+use Rattle.std.proofs.Common.{◌≡◌, ◌==◌, ◌⊎◌, ◌∙◌, ◌++◌, ℕ, Bool, true, false, cond, length, Result, Ok, Err, ap, List, [], ◌∷◌, Option, Some, None, option_map, if◌then◌else◌, inl, inr, refl}
 use Rattle.std.specs.List.{AllByRecursion}
 use Rattle.std.proofs.lemmas.Bool.{cond_both, false≢true, true≢false}
 use Rattle.arrayvec.specs.ArrayVec.{ArrayVec}

@@ -53,7 +53,7 @@ use Rattle.pn_alarms.specs.declared.pdu.Header.{Header}
 use Rattle.pn_alarms.specs.Message.{ToDevice}
 use Rattle.relations.specs.Diagnosed.{has_sent_low, heard_low, hearing_low}
 use Rattle.device_frames.specs.Heard.{Heard, Ticks, Unreadable, Elsewhere, Asks, Resolves, Reported, Cyclic, Alarms, LowReplies, LowConfirms, Met, Applied, Said, Calls, Responds, Garbled}
-use Rattle.device_core.specs.Handled.{Handled, is_running, is_request, handled_request, handled_effect, handled_write, handled_own, handled_asking, handled_judged, handled_local, handled_question, handled_unanswered, handled_looked, handled_blocks, handled_call, handled_answer, handled_said, handled_pdu, handled_received, handled, handled_alarm, handled_low, handled_low_pdu, handled_plug_answer, handled_response, change_of, handled_change, handled_input, handled_modules, handled_notice, kept_status, may_be_diagnosed, unit_rest, unit_sent}
+use Rattle.device_core.specs.Handled.{Handled, is_running, is_request, handled_request, handled_effect, handled_write, handled_own, handled_asking, handled_judged, handled_local, handled_question, handled_unanswered, handled_looked, handled_blocks, handled_call, handled_answer, handled_said, handled_pdu, handled_received, handled, handled_alarm, handled_low, handled_low_pdu, handled_plug_answer, change_of, handled_change, handled_input, handled_modules, handled_notice, kept_status, may_be_diagnosed, unit_rest, unit_sent}
 use Rattle.device_core.specs.Machine.{farewell_at, finished, resets}
 use Rattle.device_core.specs.Modules.{outside, plug_of, pull_of, slot_pull_of}
 use Rattle.arrayvec.specs.ArrayVec.{ArrayVec}

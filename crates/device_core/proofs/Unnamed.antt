@@ -1,5 +1,5 @@
 -- A station that names no records asks its application nothing.
-use Rattle.std.proofs.Common.{◌≡◌, ◌==◌, true, eqb-true, ℕ, List, [], ◌∷◌, length, arith, Option, Some, None, option_map, take, Result, Ok, Err, refl, ap}
+use Rattle.std.proofs.Common.{◌≡◌, ◌==◌, true, eqb-true, ℕ, List, [], ◌∷◌, length, arith, Option, None, option_map, take, Result, Ok, Err, refl, ap}
 use Rattle.std.proofs.lemmas.Bool.{cond_both}
 use Rattle.pn_values.specs.declared.real.Real.{Real}
 use Rattle.wire.specs.Codec.{◌>>=◌}
@@ -17,7 +17,7 @@ use Rattle.asked_records.specs.Judging.{asked_name, asked_read, asked_write, rea
 use Rattle.asked_records.specs.declared.names.RecordName.{RecordName}
 use Rattle.asked_records.specs.declared.question.Request.{Request}
 use Rattle.asked_records.specs.declared.question.Request.TheVariants as request
-use Rattle.device_core.specs.Asking.{Asking, asking_of, asking_read, asking_write, question_of, write_within}
+use Rattle.device_core.specs.Asking.{asking_of, asking_read, asking_write, question_of, write_within}
 
 none_named : (real : Real) (header : RecordHeader) → asked_name real [] header ≡ None
 none_named real header = cond_both (has_parameter real header.slot_number header.subslot_number header.index) _ _

@@ -14,7 +14,7 @@ use Rattle.record_blocks.specs.declared.write_record.IodWriteReq.{IodWriteReq}
 use Rattle.rpc_core.specs.declared.response.Status.{Status}
 use Rattle.rpc_core.specs.Call.{Asked as Call}
 use Rattle.rpc_core.specs.Response.{answer_to}
-use Rattle.rpc_core.specs.Cache.{Kept, Reported as Looked, new, again, old, looked, kept_more, behind_call}
+use Rattle.rpc_core.specs.Cache.{Kept, Reported as Looked, new, looked, kept_more, behind_call}
 use Rattle.records.specs.calls.Naming.{in_relation, is_relation}
 use Rattle.records.specs.calls.Single.{single_of}
 use Rattle.records.specs.declared.status.call_fault.CallFault.{CallFault}

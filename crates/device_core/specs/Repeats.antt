@@ -1,5 +1,5 @@
 -- The answers that are stored: what leaves them as they are, and how a call is answered when it comes again.
-use Rattle.std.specs.Prelude.{◌≡◌, ◌≤◌, ◌⊎◌, ℕ, Bool, true, false, List, [], ◌∷◌, length, nat_eq, Option, Some, None}
+use Rattle.std.specs.Prelude.{◌≡◌, ◌≤◌, ◌⊎◌, ℕ, Bool, true, false, List, [], ◌∷◌, length, nat_eq, Some}
 use Rattle.std.specs.Cmp.Lexicographic.{pointwise}
 use Rattle.std.specs.List.{AllByRecursion, list_any}
 use Rattle.settings_journal.specs.settings_store.Machine.{Outcome}
@@ -13,7 +13,7 @@ use Rattle.asked_records.specs.Asked.{AskedState, question_in}
 use Rattle.asked_records.specs.Questions.{is_implicit, operation_of as operation_asked}
 use Rattle.asked_records.specs.declared.question.Question.{Question}
 use Rattle.device_frames.specs.declared.event.Event.{Event}
-use Rattle.device_frames.specs.Heard.{Heard, Ticks, Reported, Applied, Said, Calls, Responds, Garbled, heard_of}
+use Rattle.device_frames.specs.Heard.{Heard, Ticks, Reported, Applied, Said, Calls, heard_of}
 use Rattle.device_core.specs.State.{Station, Live}
 use Rattle.device_core.specs.Asking.{is_kept}
 use Rattle.device_core.specs.Machine.{heard_step, run_of}

@@ -40,11 +40,14 @@ use Rattle.device_core.specs.Machine.{farewells_at, finished, handled_step, hear
 use Rattle.device_core.specs.Local.{IsLinkOf, IsPhaseOf, IsRelationOf}
 use Rattle.std.proofs.lemmas.Bool.{cond_both}
 use Rattle.arrayvec.specs.ArrayVec.{ArrayVec}
-use Rattle.rpc_core.specs.Cache.{Kept, looked}
+use Rattle.pn_values.specs.IpSuite.{is_zero}
+use Rattle.relations.specs.declared.options.DeviceOptions.{DeviceOptions}
+use Rattle.rpc_core.specs.Cache.{Kept}
 use Rattle.records.specs.calls.Naming.{is_relation}
 use Rattle.asked_records.specs.Answers.{Gives, is_refusal, judged}
 use Rattle.asked_records.specs.Asked.{AskedState, is_of, is_over as is_late, question_in}
-use Rattle.asked_records.specs.Questions.{header_of}
+use Rattle.asked_records.specs.Questions.{header_of, operation_of}
+use Rattle.asked_records.specs.declared.status.Unanswered.TheVariants.{Late}
 use Rattle.asked_records.specs.declared.answering.AnswerFault.{AnswerFault}
 use Rattle.asked_records.specs.declared.question.Question.{Question}
 use Rattle.relations.specs.Phases.{Handled as Moving, Named, Unmoved}
@@ -52,7 +55,7 @@ use Rattle.relations.specs.RelationState.{uuid_of}
 use Rattle.relations.specs.Timers.{due_of}
 use Rattle.device_frames.specs.declared.local.Local.{Local}
 use Rattle.device_frames.specs.Relation.{where_due}
-use Rattle.device_core.specs.Asking.{answered_link, ended_by, is_full, is_new, late_in, late_reply, late_sent, left_asked, source_of}
+use Rattle.device_core.specs.Asking.{answered_link, ended_by, is_full, is_kept, is_new, late_in, late_sent, left_asked, looked_if, question_replies, refused_reply, source_of}
 use Rattle.device_core.specs.Handled.{counted_sent, handled_judged, handled_local, unit_rest, unit_sent}
 use Rattle.octets_law.proofs.Asked.{judged_goes as judged_asked}
 use Rattle.octets_law.proofs.Locals.{by_local}
@@ -405,21 +408,28 @@ module _ (link : RelationState) (timed : IsTimed link) (none : ending_of link �
   passes = record { request = refl; route = refl; endpoint = refl; timed = later_timed; left = left_timed (is_timed link.phase) refl }
 
 -- At most one call is refused with a unit, and none if none is over.
-late_few : (address : List ℕ) (late : Option Question) (calls : List Kept) → length (late_sent address late calls) ≤ 1
-late_few address None calls = omega arith
-late_few address (Some question) calls = by_due (is_new (looked question.header.activity question.header.sequence calls))
+late_few : (options : DeviceOptions) (address : List ℕ) (late : Option Question) (calls : List Kept) → length (late_sent options address late calls) ≤ 1
+late_few options address None calls = omega arith
+late_few options address (Some question) calls = by_address (is_zero address)
   where
-    by_due : (due : Bool) → length (where_due due (late_reply address question ∷ [])) ≤ 1
+    by_due : (due : Bool) → length (where_due due (refused_reply address Late question ∷ [])) ≤ 1
     by_due true = omega arith
     by_due false = omega arith
+
+    by_address : (none : Bool)
+        → length (if none then [] else question_replies (is_kept options (operation_of question.request)) question (refused_reply address Late question) calls) ≤ 1
+    by_address true = omega arith
+    by_address false =
+        by_due (is_new (looked_if (is_kept options (operation_of question.request)) question.header.activity question.header.sequence calls))
 
 over_left : (uuid : Option (List ℕ)) (asked : AskedState) → is_late asked ≡ false → is_late (left_asked uuid asked) ≡ false
 over_left None asked not_over = not_over
 over_left (Some uuid) asked not_over = cond_both (is_of uuid asked) _ _ (λ (s : AskedState). is_late s ≡ false) (λ _. refl) (λ _. not_over)
 
-late_none : (address : List ℕ) (count : ℕ) (asked : AskedState) (calls : List Kept) → is_late asked ≡ false → late_sent address (late_in count asked) calls ≡ []
-late_none address count asked calls not_over =
-    ap (λ b. late_sent address (if b && not (is_full count) then question_in asked else None) calls) not_over
+late_none : (options : DeviceOptions) (address : List ℕ) (count : ℕ) (asked : AskedState) (calls : List Kept) → is_late asked ≡ false
+    → late_sent options address (late_in count asked) calls ≡ []
+late_none options address count asked calls not_over =
+    ap (λ b. late_sent options address (if b && not (is_full count) then question_in asked else None) calls) not_over
 
 tick_of_link : (outcomes : List Outcome) (station : Station) (live : Live) (link : RelationState) → IsTimed link
     → let step = heard_step outcomes station (record live { rest = record live.rest { link = Some link } }) Ticks in
@@ -434,7 +444,7 @@ tick_of_link outcomes station live link timed = by_ending (ending_of link) refl
     address = live.values.running.suite.address
 
     late : List Sent
-    late = counted_sent address (length (unit_sent related)) (unit_rest related)
+    late = counted_sent station address (length (unit_sent related)) (unit_rest related)
 
     by_ending : (ending : Option Abort) → ending_of link ≡ ending
         → IsOver live.rest.asked link (updated (passing_by (ending_of link)) (Some link))
@@ -446,8 +456,8 @@ tick_of_link outcomes station live link timed = by_ending (ending_of link) refl
       reason = why;
       cause = due_now link why timed is;
       others = late;
-      few = late_few address (late_in (length (unit_sent related)) (unit_rest related).asked) live.rest.calls;
-      late = λ not_over. late_none address (length (unit_sent related)) (unit_rest related).asked live.rest.calls
+      few = late_few station.options address (late_in (length (unit_sent related)) (unit_rest related).asked) live.rest.calls;
+      late = λ not_over. late_none station.options address (length (unit_sent related)) (unit_rest related).asked live.rest.calls
           (over_left (ended_by (due_of (Some link)).farewell) live.rest.asked not_over);
       says = ap (λ e. due_frames address (counter_of (units_after 1 live.rest.units)) (due_by link e) (updated (passing_by e) (Some link)) ++ late) is;
     })

@@ -7,11 +7,15 @@ use Rattle.relations.specs.RelationState.{RelationState}
 use Rattle.relations.specs.Timers.{due_of, ending_of, unit_later}
 use Rattle.settings_journal.specs.settings_store.State.{Values}
 use Rattle.std.proofs.lemmas.List.{append-nil}
-use Rattle.rpc_core.specs.Cache.{Kept, looked}
+use Rattle.pn_values.specs.IpSuite.{is_zero}
+use Rattle.relations.specs.declared.options.DeviceOptions.{DeviceOptions}
+use Rattle.rpc_core.specs.Cache.{Kept}
+use Rattle.asked_records.specs.Questions.{operation_of}
 use Rattle.asked_records.specs.declared.question.Question.{Question}
+use Rattle.asked_records.specs.declared.status.Unanswered.TheVariants.{Late}
 use Rattle.device_frames.specs.Relation.{due_frames, where_due}
 use Rattle.device_frames.specs.Sent.{Sent, IdentifyAnswer, GetAnswer, SetAnswer, ArpReply, CallAnswer, Again, ReadyCall, PlugReadyCall, Ends, Exchanges, bytes_of}
-use Rattle.device_core.specs.Asking.{is_new, late_in, late_reply, late_sent}
+use Rattle.device_core.specs.Asking.{is_kept, is_new, late_in, late_sent, looked_if, question_replies, refused_reply}
 use Rattle.pn_alarms.specs.declared.abort.Abort.{Abort}
 use Rattle.device_frames.specs.declared.event.Event.{Event}
 use Rattle.device_frames.specs.declared.event.Event.TheVariants.{Tick}
@@ -81,13 +85,21 @@ but_both (PlugReadyCall address ready ∷ one) two = ap (λ l. PlugReadyCall add
 but_both (Ends farewell ∷ one) two = ap (λ l. Ends farewell ∷ l) (but_both one two)
 but_both (Exchanges route frame ∷ one) two = ap (λ l. Exchanges route frame ∷ l) (but_both one two)
 
-but_late : (address : List ℕ) (late : Option Question) (calls : List Kept) → but_answers (late_sent address late calls) ≡ []
-but_late address None calls = refl
-but_late address (Some question) calls = by_due (is_new (looked question.header.activity question.header.sequence calls))
+but_late : (options : DeviceOptions) (address : List ℕ) (late : Option Question) (calls : List Kept)
+    → but_answers (late_sent options address late calls) ≡ []
+but_late options address None calls = refl
+but_late options address (Some question) calls = by_address (is_zero address)
   where
-    by_due : (due : Bool) → but_answers (where_due due (late_reply address question ∷ [])) ≡ []
+    by_due : (due : Bool) → but_answers (where_due due (refused_reply address Late question ∷ [])) ≡ []
     by_due true = refl
     by_due false = refl
+
+    by_address : (none : Bool)
+        → but_answers (if none then [] else question_replies (is_kept options (operation_of question.request)) question (refused_reply address Late question) calls)
+        ≡ []
+    by_address true = refl
+    by_address false =
+        by_due (is_new (looked_if (is_kept options (operation_of question.request)) question.header.activity question.header.sequence calls))
 
 -- The frames of a unit but for responses are those of the relation.
 tick_own : (outcomes : List Outcome) (station : Station) (live : Live)
@@ -95,8 +107,8 @@ tick_own : (outcomes : List Outcome) (station : Station) (live : Live)
 unfolding heard_of heard_step handled_step
 tick_own outcomes station live =
     let address = live.values.running.suite.address in
-    ap (map (bytes_of station.identity)) (but_both (unit_sent live) (counted_sent address (length (unit_sent live)) (unit_rest live))
-    ∙ ap (λ l. but_answers (unit_sent live) ++ l) (but_late address (late_in (length (unit_sent live)) (unit_rest live).asked) live.rest.calls)
+    ap (map (bytes_of station.identity)) (but_both (unit_sent live) (counted_sent station address (length (unit_sent live)) (unit_rest live))
+    ∙ ap (λ l. but_answers (unit_sent live) ++ l) (but_late station.options address (late_in (length (unit_sent live)) (unit_rest live).asked) live.rest.calls)
     ∙ append-nil (but_answers (unit_sent live)))
 
 tick_frames : (outcomes : List Outcome) (station : Station) (one other : Live) → IsLeft one other

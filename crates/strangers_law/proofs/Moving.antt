@@ -18,7 +18,7 @@ use Rattle.pn_values.specs.declared.im_value.ImValue.{ImValue}
 use Rattle.frame_codec.specs.declared.udp.Caller.{Caller}
 use Rattle.rpc_core.specs.Call.{Asked as Call}
 use Rattle.rpc_core.specs.Response.{Answered}
-use Rattle.rpc_core.specs.Cache.{Reported as Looked, again, looked, new, old}
+use Rattle.rpc_core.specs.Cache.{Reported as Looked, again, new, old}
 use Rattle.connects.specs.requests.Request.{Request}
 use Rattle.records.specs.declared.status.call_fault.CallFault.{CallFault}
 use Rattle.records.specs.declared.status.operation.Operation.{Operation}
@@ -52,12 +52,12 @@ use Rattle.device_frames.specs.declared.note.Note.TheVariants as note
 use Rattle.arrayvec.specs.ArrayVec.{ArrayVec}
 use Rattle.records.specs.calls.Naming.{is_relation}
 use Rattle.asked_records.specs.Answers.{Gives, is_refusal, judged}
-use Rattle.asked_records.specs.Asked.{AskedState, asks, is_repeat}
+use Rattle.asked_records.specs.Asked.{AskedState, asks, behind_displaced, displaced_by, is_repeat}
 use Rattle.asked_records.specs.Questions.{header_of}
 use Rattle.asked_records.specs.declared.answering.AnswerFault.{AnswerFault}
 use Rattle.asked_records.specs.declared.question.Question.{Question}
 use Rattle.device_frames.specs.declared.local.Local.{Local}
-use Rattle.device_core.specs.Asking.{Asking, asking_of, source_of}
+use Rattle.device_core.specs.Asking.{Asking, asking_of, is_kept, looked_if, source_of}
 use Rattle.device_core.specs.Local.{IsRelationOf}
 use Rattle.device_frames.specs.Heard.{Heard, Ticks, Applied, Reported, Cyclic, Alarms, LowReplies, LowConfirms}
 use Rattle.device_frames.specs.Heard.{Said, Calls, Responds, Garbled}
@@ -209,14 +209,17 @@ module _ (station : Station) (live : Live) where
   )
 
   -- A call for a record of the application changes neither.
-  calls_question : (question : Question) (asked : Option AskedState) → Done (handled_question station live question asked)
-  calls_question question (Some asked) = λ answers. inl (refl, stays live.rest.link)
-  calls_question question None = λ answers. inl (refl, stays live.rest.link)
+  calls_question : (question : Question) (displaced : Option Question) (asked : Option AskedState)
+      → Done (handled_question station live question displaced asked)
+  calls_question question displaced (Some asked) = λ answers. inl (refl, stays live.rest.link)
+  calls_question question displaced None = λ answers. inl (refl, stays live.rest.link)
 
   calls_asking : (caller : Caller) (call : Call) (blocks : List ℕ) (which : Operation) (asking : Result (Option Asking) CallFault)
       → Done (handled_asking station live caller call blocks which asking)
   calls_asking caller call blocks which (Ok None) = calls_own caller call blocks which
-  calls_asking caller call blocks which (Ok (Some asking)) = calls_question asking.0 (asks asking.0 asking.1 live.rest.asked)
+  calls_asking caller call blocks which (Ok (Some asking)) =
+      let displaced = displaced_by station.options.asks_own_first asking.0 live.rest.asked in
+      calls_question asking.0 displaced (asks asking.0 asking.1 (behind_displaced displaced live.rest.asked))
   calls_asking caller call blocks which (Err why) = λ answers. inl (refl, stays live.rest.link)
 
   calls_new : (caller : Caller) (call : Call) (blocks : List ℕ) (which : Operation) → Done (handled_unanswered station live caller call blocks which)
@@ -232,7 +235,8 @@ module _ (station : Station) (live : Live) where
 
   calls_counted : (caller : Caller) (call : Call) (which : Operation) (blocks : Option (List ℕ)) → Done (handled_blocks station live caller call which blocks)
   calls_counted caller call which None = λ answers. inl (refl, stays live.rest.link)
-  calls_counted caller call which (Some blocks) = calls_looked caller call blocks which (looked call.header.activity call.header.sequence live.rest.calls)
+  calls_counted caller call which (Some blocks) =
+      calls_looked caller call blocks which (looked_if (is_kept station.options which) call.header.activity call.header.sequence live.rest.calls)
 
   calls : (caller : Caller) (call : Call) (which : Option Operation) → Done (handled_call station live caller call which)
   calls caller call None = refuses note.Fault

@@ -1,5 +1,5 @@
 -- What a device does with what a stranger says: its relation remains.
-use Rattle.std.proofs.Common.{◌≡◌, ◌==◌, ◌++◌, inl, inr, nat_lt, ◌&&◌, ℕ, Bool, true, false, nat_eq, List, [], ◌∷◌, Option, Some, None, is_some, Result, Ok, Err, refl, sym, ap, subst}
+use Rattle.std.proofs.Common.{◌≡◌, ◌==◌, ◌++◌, inl, inr, nat_lt, ◌&&◌, ℕ, Bool, true, false, nat_eq, List, [], ◌∷◌, Option, Some, None, is_some, Result, Ok, Err, refl, sym, ap, subst, if◌then◌else◌}
 use Rattle.std.proofs.lemmas.Bool.{cond_both, cond-false}
 use Rattle.std.specs.Cmp.Lexicographic.{pointwise}
 use Rattle.std.specs.List.{AllByRecursion}
@@ -47,12 +47,13 @@ use Rattle.settings_journal.specs.settings_store.State.{Values}
 use Rattle.settings_journal.specs.settings_store.Machine.{Outcome, carried, rest_of}
 use Rattle.rpc_core.specs.declared.response.Status.{Status}
 use Rattle.asked_records.specs.Answers.{unanswered_status}
-use Rattle.asked_records.specs.Asked.{AskedState, asks, is_repeat}
+use Rattle.pn_values.specs.IpSuite.{is_zero}
+use Rattle.asked_records.specs.Asked.{AskedState, asks, behind_displaced, displaced_by, is_repeat}
 use Rattle.asked_records.specs.Questions.{operation_of as operation_asked}
 use Rattle.asked_records.specs.declared.question.Question.{Question}
 use Rattle.asked_records.specs.declared.status.Unanswered.TheVariants.{Busy}
 use Rattle.device_frames.specs.Relation.{where_due}
-use Rattle.device_core.specs.Asking.{Asking, asking_of, is_new, reply_to}
+use Rattle.device_core.specs.Asking.{Asking, asking_of, is_kept, is_new, looked_if, question_replies, refused_reply, refused_sent, reply_to}
 use Rattle.device_core.specs.State.{Live, Rest, Station, alias_in}
 use Rattle.device_core.specs.Handled.{Handled, Refuses, Sets, Writes, WritesEach, Moves, handled, handled_alarm, handled_answer, handled_blocks, handled_call, handled_cyclic, handled_looked, handled_low, handled_asking, handled_own, handled_plug_answer, handled_question, handled_unanswered, handled_received, handled_request, handled_response, handled_said, handled_write, answer_from, counted_by, kept_behind, implicitly, is_running, is_request, known_of, number_now, partner_of, ready_behind, served, starting_of}
 use Rattle.device_core.specs.Log.{connect_log, with_log}
@@ -122,6 +123,11 @@ looked_stored activity sequence (one ∷ others) frame e =
     (λ _. cond_both (sequence == one.sequence) _ _ (λ (r : Looked). r ≡ again frame → IsIn frame (one.frame ∷ frames_stored others)) (λ _ e. inl (let same : frame ≡ one.frame = cc in same))
     (λ _. cond_both (nat_lt sequence one.sequence) _ _ (λ (r : Looked). r ≡ again frame → IsIn frame (one.frame ∷ frames_stored others)) (λ _ e. absurd cc) (λ _ e. absurd cc)))
     (λ _ e. inr (looked_stored activity sequence others frame e)) e
+
+looked_if_stored : (stored : Bool) (activity : List ℕ) (sequence : ℕ) (calls : List Kept) (frame : List ℕ)
+    → looked_if stored activity sequence calls ≡ again frame → IsIn frame (frames_stored calls)
+looked_if_stored true activity sequence calls frame e = looked_stored activity sequence calls frame e
+looked_if_stored false activity sequence calls frame e = absurd cc
 
 -- ---- a Set without a reset
 
@@ -290,20 +296,41 @@ module _ (station : Station) (live : Live) (link : RelationState) (exists : live
   reply_answers true question status blocks = (tt, tt)
   reply_answers false question status blocks = tt
 
-  question_remains : (question : Question) (asked : Option AskedState) → Remains live (handled_question station live question asked)
-  question_remains question (Some asked) =
-      (record { link = refl; units = refl; is_running = refl; statuses = refl; peer = refl; diagnoses = refl; made = refl; real = refl }, tt)
-  question_remains question None = (
+  refused_answers : (refused : Option Question)
+      → AllByRecursion (IsAnswer (stored_in live)) (refused_sent station.options live.values.running.suite.address Busy refused live.rest.calls)
+  refused_answers None = tt
+  refused_answers (Some question) = by_address (is_zero live.values.running.suite.address)
+    where
+      stored : Bool
+      stored = is_kept station.options (operation_asked question.request)
+
+      by_address : (none : Bool) → AllByRecursion (IsAnswer (stored_in live)) (if none then []
+          else question_replies stored question (refused_reply live.values.running.suite.address Busy question) live.rest.calls)
+      by_address true = tt
+      by_address false =
+          reply_answers (is_new (looked_if stored question.header.activity question.header.sequence live.rest.calls)) question
+          (unanswered_status (operation_asked question.request) Busy) []
+
+  question_remains : (question : Question) (displaced : Option Question) (asked : Option AskedState)
+      → Remains live (handled_question station live question displaced asked)
+  question_remains question displaced (Some asked) = (
     record { link = refl; units = refl; is_running = refl; statuses = refl; peer = refl; diagnoses = refl; made = refl; real = refl },
-    reply_answers (is_new (looked question.header.activity question.header.sequence live.rest.calls)) question
-        (unanswered_status (operation_asked question.request) Busy) [],
+    refused_answers displaced,
+  )
+  question_remains question displaced None = (
+    record { link = refl; units = refl; is_running = refl; statuses = refl; peer = refl; diagnoses = refl; made = refl; real = refl },
+    reply_answers
+        (is_new (looked_if (is_kept station.options (operation_asked question.request)) question.header.activity question.header.sequence live.rest.calls))
+        question (unanswered_status (operation_asked question.request) Busy) [],
   )
 
   asking_remains : (caller : Caller) (call : Call) (blocks : List ℕ) (operation : Operation) (asking : Result (Option Asking) CallFault)
       → Names link blocks ≡ false
       → Remains live (handled_asking station live caller call blocks operation asking)
   asking_remains caller call blocks operation (Ok None) other = own_remains caller call blocks operation other
-  asking_remains caller call blocks operation (Ok (Some asking)) other = question_remains asking.0 (asks asking.0 asking.1 live.rest.asked)
+  asking_remains caller call blocks operation (Ok (Some asking)) other =
+      let displaced = displaced_by station.options.asks_own_first asking.0 live.rest.asked in
+      question_remains asking.0 displaced (asks asking.0 asking.1 (behind_displaced displaced live.rest.asked))
   asking_remains caller call blocks operation (Err why) other =
       (record { link = refl; units = refl; is_running = refl; statuses = refl; peer = refl; diagnoses = refl; made = refl; real = refl }, (tt, tt))
 
@@ -313,17 +340,22 @@ module _ (station : Station) (live : Live) (link : RelationState) (exists : live
       cond_both (is_repeat call.header.activity call.header.sequence live.rest.asked) _ _ (Remains live) (λ _. (stays_as_is live.rest, tt))
       (λ _. asking_remains caller call blocks operation (asking_of live.rest.real station.named (uuid_of live.rest.link) caller call blocks operation) other)
 
-  looked_remains : (caller : Caller) (call : Call) (blocks : List ℕ) (operation : Operation) (found : Looked) → looked call.header.activity call.header.sequence live.rest.calls ≡ found
+  looked_remains : (caller : Caller) (call : Call) (blocks : List ℕ) (operation : Operation) (found : Looked)
+      → looked_if (is_kept station.options operation) call.header.activity call.header.sequence live.rest.calls ≡ found
       → Names link blocks ≡ false → Remains live (handled_looked station live caller call blocks operation found)
   looked_remains caller call blocks operation new is other = unanswered_remains caller call blocks operation other
-  looked_remains caller call blocks operation (again frame) is other = (stays_as_is live.rest, (looked_stored call.header.activity call.header.sequence live.rest.calls frame is, tt))
+  looked_remains caller call blocks operation (again frame) is other = (
+    stays_as_is live.rest,
+    (looked_if_stored (is_kept station.options operation) call.header.activity call.header.sequence live.rest.calls frame is, tt),
+  )
   looked_remains caller call blocks operation old is other = tt
 
   blocks_remain : (caller : Caller) (call : Call) (operation : Operation) (blocks : Option (List ℕ)) → call.blocks ≡ blocks → IsUnnamed link call
       → Remains live (handled_blocks station live caller call operation blocks)
   blocks_remain caller call operation None is other = (record { link = refl; units = refl; is_running = refl; statuses = refl; peer = refl; diagnoses = refl; made = refl; real = refl }, (tt, tt))
   blocks_remain caller call operation (Some blocks) is other =
-      looked_remains caller call blocks operation (looked call.header.activity call.header.sequence live.rest.calls) refl (other blocks is)
+      looked_remains caller call blocks operation
+      (looked_if (is_kept station.options operation) call.header.activity call.header.sequence live.rest.calls) refl (other blocks is)
 
   call_remains : (caller : Caller) (call : Call) (operation : Option Operation) → IsUnnamed link call → Remains live (handled_call station live caller call operation)
   call_remains caller call None other = tt
