@@ -174,6 +174,7 @@ static void wait_for(uint32_t phase, const char *what)
 static const pn_station station = {
     .mac = {0x02, 0, 0, 0, 0, 1}, .vendor_id = 0x0123, .device_id = 0x0460, .instance = 1, .station_type_length = 5, .station_type = "valve",
     .order_id = "VALVE 1             ", .serial_number = "1               ", .software_revision = {'V', 1, 0, 0}, .without_services = 1,
+    .reads_not_kept = 1, .asks_own_first = 1, /* the calls of the controller come before those of any other station */
     .module_count = 2,
     .modules = {{.ident = 1, .slot = 0, .submodule_count = 1, .submodules = {{.ident = 1, .subslot = 1}}},
                 {.ident = 16, .slot = 1, .submodule_count = 1, .submodules = {{.ident = 16, .subslot = 1, .input = 2}}}},
