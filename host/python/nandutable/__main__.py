@@ -42,9 +42,9 @@ status: 0; 1 refused; 2 it does not run, or does not exchange data in time;
 64 wrong words; 66 no such name
 
 examples:
-  nandutable --interface eth2 flow.json watch flow-7.flow
+  nandutable --interface eth2 flow.json watch flow-7.slot2_flow
   nandutable --socket /run/nandutable-controller/eth2/lines
-  nandutable --socket /run/nandutable-controller/eth2/lines set flow-7.valve 1"""
+  nandutable --socket /run/nandutable-controller/eth2/lines set flow-7.slot4_valve_1 1"""
 
 WITH_VALUE = ("-i", "--interface", "-s", "--socket", "--ready", "--seconds", "--retry", "--assign")
 COMMANDS = {"values": (0, None), "get": (1, None), "names": (0, 0), "watch": (0, None), "set": (2, 2), "read": (4, 4), "write": (5, 5), "stations": (0, 0), "snapshot": (0, 0)}
