@@ -1,7 +1,8 @@
 #!/usr/bin/env python3
 """Counts the instructions of a step of a device that exchanges cyclic data and alarms, side by side with those of the same work in
 plain Rust (bench/figures/exchange.rs): both take the same lines, and both have to send the same octets. Its status is 1 where a figure passes
-its bound or where they do not send the same.
+its bound or where they do not send the same. Of a figure that passes its bound it says how many of its instructions are of each crate: for that it
+builds the program once more, with the numbers of its lines.
 
 The frames are made here from IEC 61158-6-10, and not by what is measured. Needs rustc, valgrind and the program bench_exchange of
 tests/benches, built: both programs are made by rustc.
@@ -9,6 +10,7 @@ tests/benches, built: both programs are made by rustc.
                                          command, and compares only what is sent.
 """
 
+import collections
 import os
 import pathlib
 import re
@@ -22,6 +24,8 @@ from program import answer_help, bench, need, refuse
 
 ROOT = pathlib.Path(__file__).resolve().parent.parent.parent
 PLAIN = ROOT / "bench/figures/build/exchange"
+# Where programs are built with the numbers of their lines.
+LINES = ROOT / "bench/figures/build/lines"
 
 # How many times the instructions of the plain program a step may take, beside its own bound.
 MOST_TIMES = 1.5
@@ -116,6 +120,49 @@ def each(command, kind, name):
     return (twice - once) / (steps * count), said
 
 
+def with_lines(package):
+    """Builds a package of the plain Rust edition with the numbers of its lines, by which callgrind names the source of each instruction. Returns the folder."""
+    environment = {**os.environ, "CARGO_PROFILE_RELEASE_DEBUG": "line-tables-only", "CARGO_TARGET_DIR": str(LINES)}
+    subprocess.run(["cargo", "build", "--release", "--quiet", "-p", package], cwd=ROOT / "out/plain-rust", env=environment, check=True)
+    return LINES / "release"
+
+
+def of_crates(kept):
+    """The instructions of each crate in what callgrind has kept, by the files of their lines."""
+    names, found, file, is_call = {}, collections.Counter(), "", False
+    for line in kept.splitlines():
+        named = re.match(r"(c?f[lie])=\((\d+)\)(?: (.*))?$", line)
+        if named:
+            names.setdefault(named[2], named[3])
+            file = file if named[1].startswith("c") else names[named[2]]
+        elif line.startswith("calls="):
+            is_call = True  # the next line has what the call took, which is counted where it is
+        elif cost := re.match(r"[-+*\d]\S* (\d+)$", line):
+            crate = re.search(r"/crates/(\w+)/src/", file)
+            found[crate[1] if crate else "others"] += 0 if is_call else int(cost[1])
+            is_call = False
+    return found
+
+
+def shares(once, twice, turns):
+    """How many instructions of a turn are of each crate, most first, by what callgrind has kept of some turns and of as many more."""
+    before, after = of_crates(once), of_crates(twice)
+    each_has = {crate: (after[crate] - before[crate]) / turns for crate in after}
+    return ", ".join(f"{crate} {count:.0f}" for crate, count in sorted(each_has.items(), key=lambda pair: (pair[0] == "others", -pair[1])) if count >= 0.5)
+
+
+def says_where(kind):
+    """Prints of which crates the instructions of a step are."""
+    program, name = str(with_lines("test_benches") / "bench_exchange"), "test_benches::exchange::turn"
+    kept = []
+    for times in (1, 2):
+        file = ROOT / "bench/figures/build/callgrind.lines"
+        subprocess.run(["valgrind", "--tool=callgrind", "--collect-atstart=no", f"--toggle-collect={name}", f"--callgrind-out-file={file}", program],
+                       input=lines(kind, times * KINDS[kind][3]).encode(), stdout=subprocess.DEVNULL, stderr=subprocess.DEVNULL, check=True)
+        kept.append(file.read_text())
+    print(f"    of these: {shares(*kept, KINDS[kind][2] * KINDS[kind][3])}")
+
+
 def measure(kind):
     """Prints the figures of a kind. Says whether they keep their bounds."""
     bound = KINDS[kind][-1]
@@ -129,6 +176,8 @@ def measure(kind):
     for name, figure, most in (("", ours, bound), (", beside plain Rust", times, MOST_TIMES)):
         if figure > most:
             print(f"PASSES ITS BOUND: {kind}{name}: {figure:.4g}, at most {most}")
+    if ours > bound or times > MOST_TIMES:
+        says_where(kind)
     return ours <= bound and times <= MOST_TIMES
 
 

@@ -100,6 +100,13 @@ struct Alarm {
     repeats: u16,
 }
 
+/// What waits for the application or for the controller: the answer to a record that the application was asked for, or the answer to the
+/// ApplicationReady of a plug. It is sent or refused after a time. No line begins one, but each unit has to ask whether one is there.
+struct Waiting {
+    since: u32,
+    repeats: u16,
+}
+
 /// What the relation waits for.
 #[derive(Clone, Copy, PartialEq, Eq)]
 enum Phase {
@@ -151,6 +158,9 @@ struct Station {
     outputs: [u8; 1440],
     counter: Option<u16>,
     alarm: Option<Alarm>,
+    low: Option<Alarm>,
+    asked: Option<Waiting>,
+    plug: Option<Waiting>,
     raised: u16,
     sent: u16,
     taken: u16,
@@ -205,6 +215,9 @@ impl Station {
             outputs: [0; 1440],
             counter: None,
             alarm: None,
+            low: None,
+            asked: None,
+            plug: None,
             raised: 0,
             sent: 0xFFFF,
             taken: 0xFFFE,
@@ -229,6 +242,12 @@ impl Station {
     fn tick(&mut self, outbox: &mut Outbox) -> Note {
         self.lamp = self.lamp.saturating_sub(1);
         self.units = self.units.wrapping_add(1);
+        if let Some(asked) = &mut self.asked {
+            asked.since += 1;
+            if asked.since == 64_000 {
+                self.asked = None;
+            }
+        }
         let Some(phase) = self.phase else { return Note::Done };
         if phase == Phase::Exchanging {
             self.until_held -= 1;
@@ -241,6 +260,20 @@ impl Station {
             if self.quiet == self.route.activity {
                 self.end(6, outbox);
                 return Note::Done;
+            }
+        }
+        if let Some(plug) = &mut self.plug {
+            plug.since += 1;
+            if plug.since == 32_000 {
+                plug.since = 0;
+                plug.repeats += 1;
+            }
+        }
+        if let Some(low) = &mut self.low {
+            low.since += 1;
+            if low.since == self.route.alarm_interval {
+                low.since = 0;
+                low.repeats += 1;
             }
         }
         if let Some(alarm) = &mut self.alarm {

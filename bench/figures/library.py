@@ -3,7 +3,8 @@
 octets, beside those of the same work in plain C behind the same calls (bench/figures/library_plain.c), which remembers what is due and takes quiet units at once. Then the
 instructions of frames to a device without a relation, and of the turns of a controller (bench/figures/library_controller.c). Its status is 1
 where a turn takes more instructions than its bound, or where both do not send as many frames, and 2 where one takes more than it did, or the
-millisecond of a controller more than its bound. bench/figures/chip measures the stack.
+millisecond of a controller more than its bound. Of a figure of the device that passes its bound it says how many of its instructions are of each
+crate. bench/figures/chip measures the stack.
 
 Needs cc and valgrind. Use: bench/figures/library.py [ARCHIVE [CONTROLLER]]   (those of the plain Rust edition if left out, which
 tools/release/library-check builds)
@@ -99,16 +100,39 @@ def each(words, given, folder, collected):
     return (twice - once) / TURNS, sent
 
 
-def of_device(program, folder, kind):
+def words_of(kind):
+    """The words of the program for a kind, and its lines."""
     (clock, ratio) = KINDS[kind][1] or (1, 1)
     lines = exchange.front(OCTETS, (clock, ratio, 7680)) + exchange.cyclic(OCTETS)(0) if KINDS[kind][1] else calls.SET_SUITE
-    return each([program, kind, str(clock * ratio), str(OCTETS)], lines.encode(), folder, ("pn_step", "pn_fetch"))
+    return [kind, str(clock * ratio), str(OCTETS)], lines.encode()
 
 
-def keeps(title, ours, bound):
+def of_device(program, folder, kind):
+    words, lines = words_of(kind)
+    return each([program, *words], lines, folder, ("pn_step", "pn_fetch"))
+
+
+def keeps(title, ours, bound, words=None, given=b""):
+    """Whether a figure keeps its bound. If one of the device does not, it says of which crates its instructions are."""
     if ours > bound:
         print(f"PASSES ITS BOUND: {title}: {ours:.0f}, at most {bound}")
+        if words is not None:
+            says_where(words, given)
     return ours <= bound
+
+
+def says_where(words, given):
+    """Prints of which crates the instructions of a turn are, by an archive with the numbers of its lines."""
+    archive, kept = str(exchange.with_lines("nandutable") / "libnandutable.a"), []
+    with tempfile.TemporaryDirectory() as folder:
+        program = os.path.join(folder, "lines")
+        run(["cc", "-std=gnu11", "-O2", "-I" + os.path.join(TOP, "include"), os.path.join(TOP, "bench", "figures", "library.c"), archive, "-o", program])
+        for turns in (TURNS, 2 * TURNS):
+            file = os.path.join(folder, "callgrind")
+            run(["valgrind", "--tool=callgrind", "--quiet", "--collect-atstart=no", "--toggle-collect=pn_step", "--toggle-collect=pn_fetch", f"--callgrind-out-file={file}", program, words[0], str(turns), *words[1:]], given)
+            with open(file, encoding="utf-8") as opened:
+                kept.append(opened.read())
+    print(f"    of these: {exchange.shares(*kept, TURNS)}")
 
 
 def slower(kind, title, ours):
@@ -128,7 +152,7 @@ def counted(program, plain, folder):
         print(f"{title}: {ours:.0f} instructions (at most {bound}){f'; in plain C {theirs:.0f}' if interval else ''}")
         if sent != plain_sent:
             print(f"NOT THE SAME WORK: {title}: {sent} frames, in plain C {plain_sent}")
-        is_kept = keeps(title, ours, bound) and is_kept and sent == plain_sent
+        is_kept = keeps(title, ours, bound, *words_of(kind)) and is_kept and sent == plain_sent
         is_slower = slower(kind, title, ours) or is_slower
     return is_kept, is_slower
 
@@ -137,12 +161,13 @@ def counted_frames(program, folder):
     """The same of frames to a device without a relation. Each is answered each time, or never."""
     is_kept, is_slower = True, False
     for kind, (title, words, line, bound) in FRAMES.items():
-        ours, sent = each([program, words, "1", str(OCTETS)], (calls.SET_SUITE + line.replace("frame", "turn")).encode(), folder, ("pn_step", "pn_fetch"))
+        given = (calls.SET_SUITE + line.replace("frame", "turn")).encode()
+        ours, sent = each([program, words, "1", str(OCTETS)], given, folder, ("pn_step", "pn_fetch"))
         print(f"{title}: {ours:.0f} instructions (at most {bound})")
         if sent != (0 if kind.startswith("foreign") else 2 * TURNS):
             print(f"NOT THE WORK: {title}: {sent} frames")
             is_kept = False
-        is_kept = keeps(title, ours, bound) and is_kept
+        is_kept = keeps(title, ours, bound, [words, "1", str(OCTETS)], given) and is_kept
         is_slower = slower(kind, title, ours) or is_slower
     return is_kept, is_slower
 
