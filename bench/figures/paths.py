@@ -1,9 +1,9 @@
 #!/usr/bin/env python3
 """How many paths of crates.txt lead from each crate down to the lowest ones, and which of its lines cost most of them.
 
-The toolchain sums the sources of a crate along each path, twice in a run of the gate, some 2 to 4 milliseconds a path. A line that is left
+The toolchain sums the sources of a library along each path, twice in a run of the gate, some 2 to 4 milliseconds a path. A line that is left
 out takes away the paths through it in every crate above. So a library that a crate names in few files is worth a look: a nearer library may
-give the same names by `pub use`.
+give the same names by `pub use`. A program and a `staticlib` are not summed, and not counted.
 
 Use: bench/figures/paths.py [FILES]   Prints the paths of each crate, and then each library that a crate names in at most FILES files (3 if left
 out), with the paths that the whole would lose, the most first.
@@ -19,22 +19,24 @@ from rattle_source import libraries_in
 
 
 def layers():
-    """The libraries of this repository that each crate lists, lowest crate first."""
+    """The libraries of this repository that each crate lists, lowest crate first, and the crates that are libraries themselves."""
     with open(os.path.join(TOP, "crates.txt"), encoding="utf-8") as file:
         parted = [line.partition("#")[0].partition(":") for line in file]
     lists = {head.split()[0]: rest.split() for head, colon, rest in parted if colon}
-    return {crate: [name for name in names if name in lists] for crate, names in lists.items()}
+    ends = {head.split()[0] for head, colon, _ in parted if colon and "staticlib" in head.split()}
+    ends |= {crate for crate in lists if os.path.isfile(os.path.join(TOP, "crates", crate, "src", "main.rt"))}
+    return {crate: [name for name in names if name in lists] for crate, names in lists.items()}, set(lists) - ends
 
 
-def paths(below):
-    """How many paths begin at each crate, the empty one counted."""
+def paths(below, libraries):
+    """How many paths begin at each library, the empty one counted."""
     found = {}
 
     def count(crate):
         if crate not in found:
             found[crate] = 1 + sum(count(name) for name in below[crate])
         return found[crate]
-    return {crate: count(crate) for crate in below}
+    return {crate: count(crate) for crate in below if crate in libraries}
 
 
 def named(crate):
@@ -50,28 +52,29 @@ def named(crate):
     return found
 
 
-def rare(below, most):
+def rare(below, libraries, most):
     """Each library that a crate names in at most this many files: the paths that go without it, the crate, the library, the files."""
-    whole = sum(paths(below).values())
+    whole = sum(paths(below, libraries).values())
     for crate, names in below.items():
         files = named(crate)
         for name in names:
             if files.get(name, 0) <= most:
                 less = {**below, crate: [other for other in names if other != name]}
-                yield whole - sum(paths(less).values()), crate, name, files.get(name, 0)
+                yield whole - sum(paths(less, libraries).values()), crate, name, files.get(name, 0)
 
 
 def main(words):
     answer_help(__doc__, words)
     if len(words) > 1 or words and not re.fullmatch(r"\d+", words[0]):
         return refuse(words)
-    below = layers()
-    counts = paths(below)
+    below, libraries = layers()
+    counts = paths(below, libraries)
     for crate, count in counts.items():
         print(f"{count:8,}  {crate}")
     print(f"{sum(counts.values()):8,}  all")
-    for less, crate, name, files in sorted(rare(below, int(words[0]) if words else 3), reverse=True):
-        print(f"{less:8,}  {crate} names {name} in {files} files")
+    for less, crate, name, files in sorted(rare(below, libraries, int(words[0]) if words else 3), reverse=True):
+        if less:
+            print(f"{less:8,}  {crate} names {name} in {files} files")
     return 0
 
 
