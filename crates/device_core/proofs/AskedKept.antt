@@ -82,7 +82,7 @@ IsHeardAskable Q (Reported caller address said) = IsAskable Q said
 IsHeardAskable Q other = Unit {0}
 
 module _ (Q : Question → Type 0) where
-  -- What is left of it by the end of a relation, by a pull, by a unit of time, or by an answer.
+  -- What remains of it after the end of a relation, by a pull, by a unit of time, or by an answer.
   after_end : (ended : Option (List ℕ)) (asked : AskedState) → AreAsked Q asked → AreAsked Q (left_asked ended asked)
   after_end ended asked were = λ question is. were question (left_was_asked ended asked question is)
 

@@ -69,7 +69,7 @@ among_not activity other (one ∷ others) none =
     by_test true false same more it = it
     by_test false false same more it = rw (sym same) (more it)
 
--- The order in which two are taken away does not matter.
+-- The order in which two are removed does not matter.
 less_swap : (activity other : List ℕ) (others : List (List ℕ)) → less activity (less other others) ≡ less other (less activity others)
 less_swap activity other [] = refl
 less_swap activity other (one ∷ others) = by_test (pointwise nat_eq one activity) refl (pointwise nat_eq one other) refl (less_swap activity other others)
@@ -96,7 +96,7 @@ abbrev IsBehind : List (List ℕ) → Kept → List Kept → Type 0
 IsBehind others kept [] = ⊥
 IsBehind others kept (one ∷ cache) = (one ≡ kept) ⊎ ((is_among others one.activity ≡ true) × IsBehind (less one.activity others) kept cache)
 
--- It stays when another answer is taken away.
+-- It stays when another answer is removed.
 behind_without : (others : List (List ℕ)) (kept : Kept) (activity : List ℕ) (cache : List Kept) → is_among others activity ≡ true
     → (kept.activity ≡ activity → ⊥) → IsBehind others kept cache → IsBehind (less activity others) kept (without activity cache)
 behind_without others kept activity [] among apart there = there

@@ -91,7 +91,7 @@ late_asked count state other is = by_over (is_over state && not (is_full count))
     by_over true found = found
     by_over false found = cc
 
--- What is left of what is asked by the end of a relation was asked before.
+-- What is still asked after the end of a relation was asked before.
 pub left_was_asked : (ended : Option (List ℕ)) (state : AskedState) (other : Question) → question_in (left_asked ended state) ≡ Some other → question_in state ≡ Some other
 left_was_asked None state other is = is
 left_was_asked (Some uuid) state other is = by_end (is_of uuid state) is
