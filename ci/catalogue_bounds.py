@@ -215,13 +215,20 @@ def flag_rows():
     yield changed(lambda catalogue: (project(catalogue).update(ReleaseOnRefusedRecord=1), entry(catalogue).update(Slot="x"))), KIND, "Project.Slots[2].Slot"
     yield changed(lambda catalogue: project(catalogue).update(ReleaseOnRefusedRecord=1, NameOfStation="-")), KIND, where
     yield changed(lambda catalogue: (catalogue.update(ReleaseOnRefusedRecord=1), point(catalogue).update(ReleaseOnRefusedRecord=1))), NONE, ""
-    # Whether the controller writes the records again after a plug: the last key of the project.
+    # Whether the controller writes the records again after a plug: the key after it.
     where = "Project.ParametersAfterPlug"
     for value, fault in ((True, NONE), (False, NONE), (None, KIND), (0, KIND), (1, KIND), ("true", KIND), ([], KIND), ({}, KIND)):
         yield changed(lambda catalogue: project(catalogue).update(ParametersAfterPlug=value)), fault, where
     yield changed(lambda catalogue: project(catalogue).update(ParametersAfterPlug=1, ReleaseOnRefusedRecord=1)), KIND, "Project.ReleaseOnRefusedRecord"
     yield changed(lambda catalogue: project(catalogue).update(ParametersAfterPlug=1, NameOfStation="-")), KIND, where
     yield changed(lambda catalogue: (catalogue.update(ParametersAfterPlug=1), point(catalogue).update(ParametersAfterPlug=1))), NONE, ""
+    # Whether the controller releases a relation that the device holds already: the last key of the project.
+    where = "Project.PersistentStart"
+    for value, fault in ((True, NONE), (False, NONE), (None, KIND), (0, KIND), (1, KIND), ("true", KIND), ([], KIND), ({}, KIND)):
+        yield changed(lambda catalogue: project(catalogue).update(PersistentStart=value)), fault, where
+    yield changed(lambda catalogue: project(catalogue).update(PersistentStart=1, ParametersAfterPlug=1)), KIND, "Project.ParametersAfterPlug"
+    yield changed(lambda catalogue: project(catalogue).update(PersistentStart=1, NameOfStation="-")), KIND, where
+    yield changed(lambda catalogue: (catalogue.update(PersistentStart=1), point(catalogue).update(PersistentStart=1))), NONE, ""
     # Whether one Write can carry several records: the last key of the access point.
     where = "DeviceAccessPointItem.MultipleWriteSupported"
     for value, fault in ((True, NONE), (False, NONE), (None, KIND), (0, KIND), (1, KIND), ("true", KIND), ([], KIND), ({}, KIND)):

@@ -132,7 +132,9 @@ def told_of(catalogue):
     releases = ["release"] if catalogue["Project"].get("ReleaseOnRefusedRecord", False) else []
     lists = ["lists"] if catalogue["DeviceAccessPointItem"].get("MultipleWriteSupported", False) else []
     parameters = ["parameters"] if catalogue["Project"].get("ParametersAfterPlug", False) else []
-    return [*layouts_of(modules), f"connect {connect_of(catalogue, modules).hex()}", *records_of(catalogue), *goes_on, *releases, *lists, *parameters]
+    persistent = ["persistent"] if catalogue["Project"].get("PersistentStart", False) else []
+    said = [*goes_on, *releases, *lists, *parameters, *persistent]
+    return [*layouts_of(modules), f"connect {connect_of(catalogue, modules).hex()}", *records_of(catalogue), *said]
 
 
 def read(path):

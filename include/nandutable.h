@@ -283,7 +283,8 @@ typedef struct pn_station {
     uint8_t serial_number[16];
     uint8_t software_revision[4]; /* a letter and three numbers */
     /* What the application decides. Zeros: any interval, inputs that are good from the start, ready when the parameters have ended, any
-     * station may hold a relation, each parameter record is kept, each relation has the same numbers, and services beside the device. */
+     * station may hold a relation, each parameter record is kept, each relation has the same numbers, the answer to a Read Implicit is
+     * stored, what is asked of the application is asked until it is answered, and services beside the device. */
     uint32_t smallest_interval;    /* of cyclic frames, in units of PN_UNIT_NS, at most 65,536: a Connect with a smaller one is refused */
     uint16_t inputs_begin_bad;     /* not 0: the IOPS of a submodule with inputs is bad until its first pn_input in the relation */
     uint16_t ready_by_application; /* not 0: ApplicationReady is sent at pn_ready, and not with the answer to PrmEnd. From PrmEnd on the activity
@@ -298,6 +299,10 @@ typedef struct pn_station {
                                     * alarms is the number plus 1. So a late frame of an earlier relation is refused */
     uint32_t first_number;         /* with that, the number of the first relation since the start, modulo 65,536: choose another at each start,
                                     * as 1,000 times the number of starts */
+    uint32_t reads_not_kept;       /* not 0: the answers to Read Implicit, which any station may call, are not stored: the device stores those of
+                                    * four activities only. Each Read Implicit is handled again, also a repeat */
+    uint32_t asks_own_first;       /* not 0: a Read or a Write within the relation takes the place of a Read Implicit that is asked of the
+                                    * application (pn_asked): that one is refused (resource busy, 0xC2) */
     uint32_t without_services;     /* not 0: the device alone, without the services of its IP address */
     uint32_t module_count;         /* at most PN_MODULES */
     pn_module modules[PN_MODULES];
@@ -451,9 +456,9 @@ static inline void pn_leave(uint32_t *made, uint32_t now)
 
 /* The sizes that the library was built with. */
 #if defined(__cplusplus)
-static_assert(offsetof(pn_op, octets) + PN_OP_SIZE == PN_OP_LENGTH && sizeof(pn_station) == 1724, "another layout than the library's");
+static_assert(offsetof(pn_op, octets) + PN_OP_SIZE == PN_OP_LENGTH && sizeof(pn_station) == 1732, "another layout than the library's");
 #else
-_Static_assert(offsetof(pn_op, octets) + PN_OP_SIZE == PN_OP_LENGTH && sizeof(pn_station) == 1724, "another layout than the library's");
+_Static_assert(offsetof(pn_op, octets) + PN_OP_SIZE == PN_OP_LENGTH && sizeof(pn_station) == 1732, "another layout than the library's");
 #endif
 
 /* The settings that survive a power failure. */
@@ -752,7 +757,8 @@ static inline uint32_t pn_ready_at(pn_device *device, pn_op *op, uint16_t slot, 
  * (PN_NEW_ASKED of pn_news, pn_asked), one at a time. The answer makes the response to the call: it is the work of the event. Answer soon: a
  * controller waits some seconds, and a call without an answer after 64,000 units of time, two seconds, is refused by the device (busy,
  * ErrorCode1 0xA7). While one is asked, another call for such a record is refused (resource busy, 0xC2), and so is the entry for such a record in a
- * list of Writes (index 0xE040; feature not supported, 0xA9). What is asked is dropped without a response when its relation ends, when its submodule
+ * list of Writes (index 0xE040; feature not supported, 0xA9). With `asks_own_first` a call of the relation takes the place of a Read Implicit that is
+ * asked: that one is refused, and the call gets the next number. What is asked is dropped without a response when its relation ends, when its submodule
  * is pulled, and at a start; pn_news reports none of these. At a start the numbers begin with 1 again. --- */
 
 /* The octets of the record are the answer to the Read with this number (pn_asked): at most its greatest length. Of more octets than
@@ -944,7 +950,7 @@ static inline uint32_t pn_provider(const pn_device *device, pn_op *op, uint16_t 
 
 /* The output of a submodule in the last accepted cyclic frame, in `length` and `octets`, and what the controller says of it, as pn_provider: pn_output and
  * pn_provider in one call. `length` is what the Connect expects, which may be another than the station has: compare it before you use the octets. Those
- * after it are old ones of the operation. The same of pn_output. May return PN_NO_FRAME. */
+ * after it are old ones of the operation. The same of pn_output. pn_received_exactly compares it. May return PN_NO_FRAME. */
 static inline uint32_t pn_received(const pn_device *device, pn_op *op, uint16_t slot, uint16_t subslot, uint8_t *iops, uint8_t *data_status)
 {
     uint32_t answer;
@@ -957,6 +963,17 @@ static inline uint32_t pn_received(const pn_device *device, pn_op *op, uint16_t 
         *iops = (uint8_t)op->iops;
         *data_status = (uint8_t)op->data_status;
     }
+    return answer;
+}
+
+/* pn_received of an output that has `length` octets at the station. If the Connect expects another length this returns PN_BAD_LENGTH, with that length
+ * in the operation: the plan does not fit the station. So no old octets are used as the output's. */
+static inline uint32_t pn_received_exactly(const pn_device *device, pn_op *op, uint16_t slot, uint16_t subslot, uint32_t length, uint8_t *iops,
+                                           uint8_t *data_status)
+{
+    uint32_t answer = pn_received(device, op, slot, subslot, iops, data_status);
+    if (answer == PN_OK && op->length != length)
+        return PN_BAD_LENGTH;
     return answer;
 }
 

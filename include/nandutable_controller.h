@@ -122,6 +122,7 @@ typedef struct pn_plan {
     uint32_t patience;         /* not of a catalogue: for how many units (PN_UNIT_NS) a state of the start-up lasts at most; 0: no limit */
     uint32_t waiting_patience; /* the same for the state in which the controller waits for the ApplicationReady */
     uint32_t parameters_after_plug; /* not 0: the controller writes the records of a submodule again after it was plugged (ParametersAfterPlug) */
+    uint32_t persistent_start; /* not 0: the controller sends a Release when its Connect is refused with State conflict (PersistentStart) */
 } pn_plan;
 
 /* The neighbour of a controller by LLDP: the texts of its PortID and its ChassisID (a MAC address as `02-00-00-00-00-01`), and the MAC
@@ -173,10 +174,10 @@ typedef struct pn_controller {
 } pn_controller;
 
 #if defined(__cplusplus)
-static_assert(sizeof(pn_plan) == 4296 && sizeof(pn_search) == 268 && sizeof(pn_tool) == 16 && sizeof(pn_target) == 14,
+static_assert(sizeof(pn_plan) == 4300 && sizeof(pn_search) == 268 && sizeof(pn_tool) == 16 && sizeof(pn_target) == 14,
               "another layout than the library's");
 #else
-_Static_assert(sizeof(pn_plan) == 4296 && sizeof(pn_search) == 268 && sizeof(pn_tool) == 16 && sizeof(pn_target) == 14,
+_Static_assert(sizeof(pn_plan) == 4300 && sizeof(pn_search) == 268 && sizeof(pn_tool) == 16 && sizeof(pn_target) == 14,
                "another layout than the library's");
 #endif
 

@@ -34,6 +34,8 @@ const pn_station application_station = {
     .only_own_controller = 1,  /* nobody else keeps the relation */
     .records_passed_on = 1,    /* a controller may write parameters for months */
     .numbers_go_round = 1,     /* a late frame of an earlier relation is refused; a product that counts its starts has `first_number` too */
+    .reads_not_kept = 1,       /* nobody else takes the places of the controller's stored answers */
+    .asks_own_first = 1,       /* nor, in a product with records of its own, that of its questions */
     .module_count = 3,
     .modules = {
         {.ident = 1, .slot = 0, .submodule_count = 3,

@@ -5,6 +5,8 @@
 #include <stdio.h>
 #include <stdlib.h>
 
+#define LONGEST 320000u /* units of time, ten seconds: within them each step of both ends is over */
+
 /* Frames that are on their way to one end. */
 struct way {
     uint32_t count;
@@ -179,21 +181,35 @@ static void start_both(void)
     accepted_by_controller(pn_controller_start(&controller, planned(), ar, activity), "pn_controller_start");
 }
 
+/* Units of time pass until the device is in this phase. If it does not come, this says how far both ends are: mostly a name or a MAC address is not
+ * the one that the other end has. */
+static void wait_for(uint32_t phase, const char *what)
+{
+    static const char *const does[] = {"is not started", "looks for its station", "sets the address", "asks for the relation", "writes the records",
+                                       "ends the parameters", "waits until the device is ready", "exchanges data", "has ended"};
+    for (uint32_t units = 0; watch.phase != phase && units < LONGEST; units++)
+        pass(1);
+    if (watch.phase == phase)
+        return;
+    must(pn_controller_state(&controller, &other), "pn_controller_state");
+    printf("%s: not within ten seconds. The controller for the station '%.*s' %s; the device has the name '%.*s'\n", what,
+           (int)planned()->name_length, (const char *)planned()->name, does[other.phase], (int)watch.settings.name_length,
+           (const char *)watch.settings.name);
+    exit(1);
+}
+
 /* The start-up, up to the exchange of data. */
 static void get_ready(void)
 {
-    while (watch.phase == PN_NONE)
-        pass(1);
+    wait_for(PN_STARTED, "a relation");
     refused(pn_alarm(&device, &op, 1, 1, count, 4), PN_WHY_NO_EXCHANGE, "an alarm");
     refused(pn_ready(&device, &op), PN_WHY_TOO_EARLY, "ready");
-    while (watch.phase != PN_AWAITING)
-        pass(1);
+    wait_for(PN_AWAITING, "the end of the parameters");
     accepted(pn_input(&device, &op, 1, 1, count, 4), "pn_input");
     refused(pn_input(&device, &op, 2, 1, count, 2), PN_WHY_NO_PLACE, "an input of slot 2");
     accepted(pn_ready(&device, &op), "pn_ready");
     refused(pn_ready(&device, &op), PN_WHY_TOO_LATE, "ready again");
-    while (watch.phase != PN_EXCHANGING)
-        pass(1);
+    wait_for(PN_EXCHANGING, "the exchange of data");
 }
 
 static void exchange(void)
@@ -204,7 +220,7 @@ static void exchange(void)
     pass(100);
     must(pn_controller_value(&controller, &other, 1, 1), "pn_controller_value");
     printf("the controller has the count %u\n", other.octets[3]);
-    must(pn_received(&device, &op, 1, 1, &iops, &status), "pn_received");
+    must(pn_received_exactly(&device, &op, 1, 1, 1, &iops, &status), "pn_received_exactly");
     printf("the device has the output %u, IOPS %02X, DataStatus %02X\n", op.octets[0], iops, status);
 }
 

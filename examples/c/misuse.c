@@ -361,6 +361,8 @@ int main(void)
     wants("no place for received IOPS", pn_received(&device, &op, 0, 1, NULL, octets), PN_NULL);
     wants("no place for received DataStatus", pn_received(&device, &op, 0, 1, octets, NULL), PN_NULL);
     wants("no received output", pn_received(&device, &op, 0, 1, octets, octets + 1), PN_NO_FRAME);
+    wants("no place for received IOPS of a length", pn_received_exactly(&device, &op, 0, 1, 0, NULL, octets), PN_NULL);
+    wants("no received output of a length", pn_received_exactly(&device, &op, 0, 1, 0, octets, octets + 1), PN_NO_FRAME);
     wants("no place for the end of parameters", pn_parameters_end(&device, &op, NULL), PN_NULL);
     wants("a status for no operation", pn_status(&device, NULL, 0, 1, 0), PN_NULL);
     wants("a plug for no operation", pn_plug(&device, NULL, 9, 1, &plugged), PN_NULL);
@@ -466,6 +468,7 @@ int main(void)
     wants("a place after a loss", pn_expected(&device, &op, 0), PN_LOST);
     wants("a provider after a loss", pn_provider(&device, &op, 0, 1, octets, octets + 1), PN_LOST);
     wants("a received output after a loss", pn_received(&device, &op, 0, 1, octets, octets + 1), PN_LOST);
+    wants("a received output of a length after a loss", pn_received_exactly(&device, &op, 0, 1, 0, octets, octets + 1), PN_LOST);
     wants("news after a loss", pn_news(&device, &op, &watch, &left), PN_LOST);
     ask_all("after a loss");
     wants("a start after a loss", pn_boot(&device, &op, erased, erased), PN_LOST);

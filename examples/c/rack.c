@@ -6,6 +6,7 @@
 #include <stdlib.h>
 
 #define SLOTS 4u
+#define LONGEST 320000u /* units of time, ten seconds: within them each step of both ends is over */
 
 /* What can be plugged: the ident number of the module, and its submodule. */
 struct kind {
@@ -191,6 +192,19 @@ static void pass(uint32_t units)
     }
 }
 
+/* Units of time pass until the device is in this phase. If it does not come, mostly a name or a MAC address is not the one of the other end. */
+static void wait_for(uint32_t phase, const char *what)
+{
+    for (uint32_t units = 0; watch.phase != phase && units < LONGEST; units++)
+        pass(1);
+    if (watch.phase == phase)
+        return;
+    must(pn_controller_state(&controller, &other), "pn_controller_state");
+    printf("%s: not within ten seconds. The controller is in state %u of enum pn_controller_phase; the device has the name '%.*s'\n", what,
+           (unsigned)other.phase, (int)watch.settings.name_length, (const char *)watch.settings.name);
+    exit(1);
+}
+
 /* --- What happens --- */
 
 /* The controller expects four modules: inputs in slots 1 and 3, outputs in slots 2 and 4. */
@@ -217,8 +231,7 @@ static void start_relation(const pn_plan *plan, uint8_t number)
 {
     const uint8_t ar[16] = {number}, activity[16] = {1, number};
     accepted_by_controller(pn_controller_start(&controller, plan, ar, activity), "pn_controller_start");
-    while (watch.phase != PN_EXCHANGING)
-        pass(1);
+    wait_for(PN_EXCHANGING, "the exchange of data");
     pass(100);
 }
 
@@ -264,8 +277,7 @@ int main(void)
     /* The controller of this repository writes no parameters after a plug, so the place waits for them until the next relation. */
     wants(PN_PLACE_TOLD, "\3\4");
     accepted_by_controller(pn_controller_stop(&controller, &other), "pn_controller_stop");
-    while (watch.phase != PN_NONE)
-        pass(1);
+    wait_for(PN_NONE, "the end of the relation");
     start_relation(plan, 2);
     wants(PN_PLACE_GOOD, "");
     return 0;

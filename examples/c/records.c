@@ -7,6 +7,7 @@
 
 #define CALIBRATION 8192u
 #define LOG 8193u
+#define LONGEST 320000u /* units of time, ten seconds: within them each step of both ends is over */
 
 /* Frames that are on their way to one end. */
 struct way {
@@ -157,6 +158,19 @@ static void pass(uint32_t units)
     }
 }
 
+/* Units of time pass until the device is in this phase. If it does not come, mostly a name or a MAC address is not the one of the other end. */
+static void wait_for(uint32_t phase, const char *what)
+{
+    for (uint32_t units = 0; watch.phase != phase && units < LONGEST; units++)
+        pass(1);
+    if (watch.phase == phase)
+        return;
+    must(pn_controller_state(&controller, &other), "pn_controller_state");
+    printf("%s: not within ten seconds. The controller is in state %u of enum pn_controller_phase; the device has the name '%.*s'\n", what,
+           (unsigned)other.phase, (int)watch.settings.name_length, (const char *)watch.settings.name);
+    exit(1);
+}
+
 static const pn_station station = {
     .mac = {0x02, 0, 0, 0, 0, 1}, .vendor_id = 0x0123, .device_id = 0x0460, .instance = 1, .station_type_length = 5, .station_type = "valve",
     .order_id = "VALVE 1             ", .serial_number = "1               ", .software_revision = {'V', 1, 0, 0}, .without_services = 1,
@@ -217,8 +231,7 @@ int main(void)
     accepted(pn_frame(&device, &op, set, sizeof set), "a Set");
     to_controller.count = 0; /* its answer is for the tool that sent it */
     accepted_by_controller(pn_controller_start(&controller, planned(), ar, activity), "pn_controller_start");
-    while (watch.phase != PN_EXCHANGING)
-        pass(1);
+    wait_for(PN_EXCHANGING, "the exchange of data");
     pass(100);
     check(pn_asked(&device, &op) == PN_NOT_ASKED, "nothing is asked");
 
@@ -253,8 +266,7 @@ int main(void)
     pass(10);
     check(log_number != 0, "the log is asked again");
     accepted_by_controller(pn_controller_stop(&controller, &other), "pn_controller_stop");
-    while (watch.phase != PN_NONE)
-        pass(1);
+    wait_for(PN_NONE, "the end of the relation");
     check(pn_asked(&device, &op) == PN_NOT_ASKED, "nothing is asked after the end of the relation");
     return 0;
 }

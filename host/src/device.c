@@ -42,6 +42,8 @@ struct options {
     int any_controller;
     int keeps_records;
     int has_fixed_numbers;
+    int keeps_reads;
+    int asks_in_order;
     pn_station records; /* whose records the application answers */
     char **words;       /* of the command line: an option may have several words */
     int count;
@@ -1122,6 +1124,12 @@ static void usage(void)
          "                        the device, and the endpoint of alarms are the same in\n"
          "                        each relation: a late frame of an earlier relation may\n"
          "                        count in the next one\n"
+         "  --keep-reads          stores the answers to Read Implicit too: four stations\n"
+         "                        that call it take the places of the controller, and a\n"
+         "                        repeated call of it is executed again\n"
+         "  --ask-in-order        refuses a call of the controller for a record of the\n"
+         "                        application as busy while a Read Implicit for one\n"
+         "                        waits for its answer\n"
          "  --no-services         the device alone: no answer to ping, to lookups of the\n"
          "                        endpoint mapper and to calls to other interfaces, no\n"
          "                        announcement of the address, and no LLDP\n"
@@ -1234,6 +1242,8 @@ static int take_option(void *context, int option, const char *word)
     case 'y': options->any_controller = 1; return 1;
     case 'k': options->keeps_records = 1; return 1;
     case 'x': options->has_fixed_numbers = 1; return 1;
+    case 'j': options->keeps_reads = 1; return 1;
+    case 'd': options->asks_in_order = 1; return 1;
     case 'f': options->flash = word; return 1;
     case 's': options->station = word; return 1;
     case 'i': options->identity = word; return 1;
@@ -1257,6 +1267,8 @@ static const struct option known[] = {{"flash", required_argument, NULL, 'f'},
                                       {"any-controller", no_argument, NULL, 'y'},
                                       {"keep-records", no_argument, NULL, 'k'},
                                       {"fixed-numbers", no_argument, NULL, 'x'},
+                                      {"keep-reads", no_argument, NULL, 'j'},
+                                      {"ask-in-order", no_argument, NULL, 'd'},
                                       {"record", required_argument, NULL, 'q'},
                                       SHARED_OPTIONS};
 
@@ -1313,6 +1325,8 @@ static int read_station(struct device *device, const struct options *options)
     device->station.only_own_controller = options->any_controller == 0;
     device->station.records_passed_on = options->keeps_records == 0;
     device->station.numbers_go_round = options->has_fixed_numbers == 0;
+    device->station.reads_not_kept = options->keeps_reads == 0;
+    device->station.asks_own_first = options->asks_in_order == 0;
     device->station.without_services = options->is_without_services != 0;
     device->station.record_count = options->records.record_count;
     memcpy(device->station.records, options->records.records, sizeof device->station.records);

@@ -57,6 +57,7 @@ static const struct key keys[] = {
     {"Project", "ContinueOnRefusedRecord", "true or false"},
     {"Project", "ReleaseOnRefusedRecord", "true or false"},
     {"Project", "ParametersAfterPlug", "true or false"},
+    {"Project", "PersistentStart", "true or false"},
     {"Controller", "NameOfStation", "a string"},
     {"Controller", "MAC", "a string"},
     {"Controller", "IPAddress", "a string"},

@@ -70,6 +70,41 @@ bridge.stop()
 print(json.dumps([*found, time.monotonic() - begins]))
 """
 
+# Brokers that end a connection after its TLS handshake, before CONNECT is written: so does one that wants a certificate. What is logged of each.
+ENDED = """
+import json, socket, ssl, struct, sys, threading, time
+certificate, key, *places = sys.argv[1:]
+sys.path[:0] = places
+from nandutable_bridge.broker import Address, Broker
+
+
+class Late(ssl.SSLSocket):
+    def do_handshake(self, *words):
+        super().do_handshake(*words)
+        time.sleep(0.5)
+
+
+def end(door, is_reset):
+    made = theirs.wrap_socket(door.accept()[0], server_side=True)
+    if is_reset:
+        made.setsockopt(socket.SOL_SOCKET, socket.SO_LINGER, struct.pack("ii", 1, 0))
+    made.close()
+
+
+said = []
+theirs, ours = ssl.SSLContext(ssl.PROTOCOL_TLS_SERVER), ssl.create_default_context(cafile=certificate)
+theirs.load_cert_chain(certificate, key)
+ours.sslsocket_class = Late
+for is_reset in (True, False):
+    door = socket.create_server(("127.0.0.1", 0))
+    threading.Thread(target=end, args=(door, is_reset), daemon=True).start()
+    address = Address("localhost", door.getsockname()[1], context=ours)
+    broker, before = Broker(address, ("plant/_bridge", b"{}"), None, lambda *_: None, said.append), len(said)
+    while len(said) == before:
+        broker.turn(0.1)
+print(json.dumps(said))
+"""
+
 
 def same(what, came, wanted):
     if came != wanted:
@@ -319,9 +354,9 @@ class BridgeTests:
         everything.end(9)
         everything = Subscriber(wire, "-t", "plant/#")
         everything.until("plant/_bridge", state="online")
-        everything.until("plant/flow-7/flow", value=3.14, quality="good")
-        everything.until("plant/flow-7/total", value=0x77)
-        everything.until("plant/flow-7/lamp/about", type="Unsigned8", direction="output")
+        everything.until("plant/flow-7/slot2_flow", value=3.14, quality="good")
+        everything.until("plant/flow-7/slot2_total", value=0x77)
+        everything.until("plant/flow-7/slot3_sub3_lamp/about", type="Unsigned8", direction="output")
         everything.until("plant/flow-7/_state", state="exchanging")
         # The bridge is killed: the broker says so. Another one brings all up to date.
         bridge.end(9)
@@ -329,21 +364,21 @@ class BridgeTests:
         device.ask("input 2 1 3f8000000000000100", "note done")
         bridge = self.bridge_program(wire, "--socket", lines)
         everything.until("plant/_bridge", state="online")
-        everything.until("plant/flow-7/flow", value=1.0, quality="good")
+        everything.until("plant/flow-7/slot2_flow", value=1.0, quality="good")
         second = self.exchanged(lines)
         same(f"frames lost while the broker and the bridge were killed, of {second[0] - first[0]}", (second[1] - first[1], second[0] > first[0] + 500), (0, True))
         # The controller is killed.
         controller.end(9)
         everything.until("plant/_controller", running=False)
         everything.until("plant/flow-7/_state", state="ended")
-        everything.until("plant/flow-7/flow", value=1.0, quality="bad")
-        self.publish(wire, "plant/flow-7/lamp/set", "9")
-        everything.until("plant/flow-7/lamp/answer", ok=False, code="no_controller")
+        everything.until("plant/flow-7/slot2_flow", value=1.0, quality="bad")
+        self.publish(wire, "plant/flow-7/slot3_sub3_lamp/set", "9")
+        everything.until("plant/flow-7/slot3_sub3_lamp/answer", ok=False, code="no_controller")
         os.remove(lines)
         controller = self.flow_controller(wire, path)
         everything.until("plant/_controller", 30, running=True)
         everything.until("plant/flow-7/_state", LATE, state="exchanging")
-        everything.until("plant/flow-7/flow", value=1.0, quality="good")
+        everything.until("plant/flow-7/slot2_flow", value=1.0, quality="good")
         # An orderly end says that the bridge is offline, and the exchange goes on.
         same("the end of the bridge", bridge.end(), 0)
         everything.until("plant/_bridge", state="offline")
@@ -368,7 +403,7 @@ class BridgeTests:
             bridge = self.bridge_program(wire, "c0", path, *more)
             everything.until("plant/flow-7/_state", LATE, state="exchanging")
             everything.until("plant/_bridge", state="online")
-            everything.until("plant/flow-7/flow", quality="good")
+            everything.until("plant/flow-7/slot2_flow", quality="good")
             everything.until("plant/_controller", running=True, link=True, interface="c0", mac="02:00:00:00:00:02")
             return bridge
         bridge = begins("--", "--assign", "02:00:00:00:00:01")
@@ -378,7 +413,7 @@ class BridgeTests:
         same("the controller has ended too", os.path.exists(f"/proc/{number}"), False)
         everything.until("plant/_bridge", state="offline")
         everything.until("plant/flow-7/_state", state="ended")
-        everything.until("plant/flow-7/flow", quality="bad")
+        everything.until("plant/flow-7/slot2_flow", quality="bad")
         bridge = begins("--view", "8893")
         same("the page", self.page_at(wire, 8893)[:15], b"HTTP/1.1 200 OK")
         told = self.goes_on(wire, everything, device, bridge, begins, path)
@@ -387,7 +422,7 @@ class BridgeTests:
         status = bridge.wait(20)
         same(f"its status after the controller's: {bridge.text()}", (status, bridge.has("nandutable-bridge: the controller was ended by signal 9")), (137, True))
         everything.until("plant/_controller", running=False)
-        everything.until("plant/flow-7/flow", quality="bad")
+        everything.until("plant/flow-7/slot2_flow", quality="bad")
         everything.until("plant/_bridge", state="offline")
         bridge = self.bridge_program(wire, "no-such-if", path)
         same(f"its status without an interface: {bridge.text()}", (bridge.wait(20), "no-such-if" in bridge.text()), (66, True))
@@ -398,7 +433,7 @@ class BridgeTests:
     def goes_on(self, wire, everything, device, bridge, begins, path):
         """Kills a bridge that has started its controller, and starts it again."""
         number, place = controller_of(bridge)
-        self.publish(wire, "plant/flow-7/lamp/set", "7")
+        self.publish(wire, "plant/flow-7/slot3_sub3_lamp/set", "7")
         device.expect("output 3 3 07")
         ends = [line for _, line in device.lines].count("phase none")
         first = self.exchanged(place)
@@ -412,8 +447,8 @@ class BridgeTests:
         same(f"another plan: {refused.text()}", (refused.wait(30), f"End it by `kill {number}`, or use it by --socket {place}" in refused.text()), (75, True))
         bridge = begins()
         same("the same controller", (controller_of(bridge), bridge.has("nandutable-bridge: uses the controller that runs already")), ((number, place), True))
-        everything.until("plant/flow-7/lamp", value=7, quality="good")
-        self.publish(wire, "plant/flow-7/lamp/set", "8")
+        everything.until("plant/flow-7/slot3_sub3_lamp", value=7, quality="good")
+        self.publish(wire, "plant/flow-7/slot3_sub3_lamp/set", "8")
         device.expect("output 3 3 08")
         third = self.exchanged(place)
         same(f"frames lost of {third[0] - first[0]}, and relations that ended", (third[1] - first[1], [line for _, line in device.lines].count("phase none")), (0, ends))
@@ -458,7 +493,7 @@ class BridgeTests:
             other.until(f"{prefix}/_bridge", LATE, state="online")
         # Each of them has all that it will keep.
         for prefix, other in {"plant": everything, **others}.items():
-            for topic in ("flow", "_ports", "_statistics"):
+            for topic in ("slot2_flow", "_ports", "_statistics"):
                 other.until(f"{prefix}/flow-7/{topic}", LATE)
         first, before = self.exchanged(lines), [resident(bridge) for bridge in bridges]
         broker.process.send_signal(signal.SIGSTOP)
@@ -469,10 +504,10 @@ class BridgeTests:
             time.sleep(0.004)
         broker.process.send_signal(signal.SIGCONT)
         device.ask("input 2 1 4048f5c30000007700", "note done")
-        everything.until("plant/flow-7/flow", 60, value=3.14)
-        everything.until("plant/flow-7/total", 60, value=0x77)
+        everything.until("plant/flow-7/slot2_flow", 60, value=3.14)
+        everything.until("plant/flow-7/slot2_total", 60, value=0x77)
         for prefix, other in others.items():
-            other.until(f"{prefix}/flow-7/flow", 60, value=3.14)
+            other.until(f"{prefix}/flow-7/slot2_flow", 60, value=3.14)
         everything.until("plant/_bridge", 60, state="online")
         second, after = self.exchanged(lines), [resident(bridge) for bridge in bridges]
         same(f"frames lost of {second[0] - first[0]}", (second[1] - first[1], second[0] > first[0] + 1000), (0, True))
@@ -527,14 +562,14 @@ class BridgeTests:
         broker = self.broker(wire)
         everything = Subscriber(wire, "-t", "plant/#")
         everything.until("plant/_bridge", 60, state="online")
-        everything.until("plant/flow-7/flow", quality="good")
+        everything.until("plant/flow-7/slot2_flow", quality="good")
         before = resident(bridge)
         path = self.path("long")
         with open(path, "wb") as file:
             file.write(b'"' + 20_000_000 * b"x" + b'"')
-        wire.within(wire.controller, "mosquitto_pub", "-t", "plant/flow-7/lamp/set", "-f", path)
-        self.publish(wire, "plant/flow-7/lamp/set", "5")
-        everything.until("plant/flow-7/lamp/answer", 60, ok=True)
+        wire.within(wire.controller, "mosquitto_pub", "-t", "plant/flow-7/slot3_sub3_lamp/set", "-f", path)
+        self.publish(wire, "plant/flow-7/slot3_sub3_lamp/set", "5")
+        everything.until("plant/flow-7/slot3_sub3_lamp/answer", 60, ok=True)
         same("its memory after a message of 20 MB", resident(bridge) - before < 1024, True)
         same("frames lost", self.exchanged(lines)[1], 0)
         same("its end", bridge.end(), 0)
@@ -577,26 +612,35 @@ class BridgeTests:
             bridge.end()
         same("what was refused has published nothing", everything.messages("refused/_bridge"), [])
         broker.end()
+        self.ended_after_handshake()
         return None
+
+    def ended_after_handshake(self):
+        """Whenever a broker ends a connection that was made, the log says that it is lost."""
+        self.openssl("req", "-x509", "-newkey", "ec", "-pkeyopt", "ec_paramgen_curve:P-256", "-nodes", "-days", "2", "-subj", "/CN=localhost", "-addext", "subjectAltName=DNS:localhost",
+                     "-keyout", "alone.key", "-out", "alone.crt")
+        ran = subprocess.run([PYTHON, "-c", ENDED, self.path("alone.crt"), self.path("alone.key"), *PLACES], capture_output=True, text=True, timeout=120)
+        same(f"its status: {ran.stderr}", ran.returncode, 0)
+        same(f"what is logged: {ran.stdout}", [": the connection is lost" in text for text in json.loads(ran.stdout)], [True, True])
 
     def openssl(self, *words):
         subprocess.run(["openssl", *words], cwd=self.folder, check=True, capture_output=True)
 
     def bridge_values(self, everything, device):
-        flow = everything.until("plant/flow-7/flow", value=0.0, quality="good")
+        flow = everything.until("plant/flow-7/slot2_flow", value=0.0, quality="good")
         same("the time is now", abs(flow["time"] - time.time()) < 30, True)
-        same("what the signal is", everything.until("plant/flow-7/flow/about"), {
-            "direction": "input", "type": "Float32", "unit": flow_unit(everything), "text": everything.until("plant/flow-7/flow/about")["text"], "slot": 2, "subslot": 1, "octet": 0,
+        same("what the signal is", everything.until("plant/flow-7/slot2_flow/about"), {
+            "direction": "input", "type": "Float32", "unit": flow_unit(everything), "text": everything.until("plant/flow-7/slot2_flow/about")["text"], "slot": 2, "subslot": 1, "octet": 0,
             "bit": None, "length": 4})
         device.ask("input 2 1 40490fdb0000002a01", "note done")
-        for name, value in (("flow", 3.1415927), ("total", 42), ("slot2_state", 1), ("pipe_full", True)):
+        for name, value in (("slot2_flow", 3.1415927), ("slot2_total", 42), ("slot2_state", 1), ("slot2_pipe_full", True)):
             everything.until(f"plant/flow-7/{name}", value=value, quality="good")
         device.ask("input 2 1 7fc000000000002a01", "note done")
-        everything.until("plant/flow-7/flow", value="nan")
+        everything.until("plant/flow-7/slot2_flow", value="nan")
         device.ask("status 2 1 bad", "note done")
-        everything.until("plant/flow-7/flow", quality="bad")
+        everything.until("plant/flow-7/slot2_flow", quality="bad")
         device.ask("status 2 1 good", "note done")
-        everything.until("plant/flow-7/flow", quality="good")
+        everything.until("plant/flow-7/slot2_flow", quality="good")
         everything.until("plant/flow-7/_state", state="exchanging", address="192.168.0.2", mac="02:00:00:00:00:01")
         everything.until("plant/_controller", running=True, link=True, interface="c0", mac="02:00:00:00:00:02")
 
@@ -621,34 +665,34 @@ class BridgeTests:
             same(f"the answer to {name} {text}: {answer}", (retained, {key: answer.get(key) for key in wanted}), (False, wanted))
             return answer
         asked.seen = {}
-        asked("lamp", "255", ok=True)
+        asked("slot3_sub3_lamp", "255", ok=True)
         device.expect("output 3 3 ff")
-        everything.until("plant/flow-7/lamp", value=255, quality="good")
-        asked("lamp", '{"value": 7.0, "id": "first"}', ok=True, id="first")
+        everything.until("plant/flow-7/slot3_sub3_lamp", value=255, quality="good")
+        asked("slot3_sub3_lamp", '{"value": 7.0, "id": "first"}', ok=True, id="first")
         device.expect("output 3 3 07")
-        asked("valve_3", "true", ok=True)
+        asked("slot4_valve_3", "true", ok=True)
         device.expect("output 4 1 04")
-        asked("display", '{"value": "Hello, \\"pump\\" 1", "id": 2}', ok=True, id=2)
+        asked("slot3_sub1_display", '{"value": "Hello, \\"pump\\" 1", "id": 2}', ok=True, id=2)
         device.expect("output 3 1 " + b'Hello, "pump" 1'.hex())
-        everything.until("plant/flow-7/display", value='Hello, "pump" 1')
-        asked("lamp", "256", ok=False, code="value", reason="Unsigned8 takes 0 to 255")
-        asked("lamp", '"a b"', ok=False, code="value")
-        asked("lamp", "on", ok=False, code="value")
-        asked("flow", "1.5", ok=False, code="input")
+        everything.until("plant/flow-7/slot3_sub1_display", value='Hello, "pump" 1')
+        asked("slot3_sub3_lamp", "256", ok=False, code="value", reason="Unsigned8 takes 0 to 255")
+        asked("slot3_sub3_lamp", '"a b"', ok=False, code="value")
+        asked("slot3_sub3_lamp", "on", ok=False, code="value")
+        asked("slot2_flow", "1.5", ok=False, code="input")
         asked("nothing", "1", ok=False, code="unknown")
         # A retained set is ignored, when it comes and at each start of a bridge.
-        asked("lamp", "99", "-r", ok=False, code="retained")
-        same("the lamp", everything.until("plant/flow-7/lamp")["value"], 7)
-        self.publish(wire, "plant/flow-7/lamp/set", "", "-r")
+        asked("slot3_sub3_lamp", "99", "-r", ok=False, code="retained")
+        same("the lamp", everything.until("plant/flow-7/slot3_sub3_lamp")["value"], 7)
+        self.publish(wire, "plant/flow-7/slot3_sub3_lamp/set", "", "-r")
         # Without a relation it is refused, and not kept.
         device.end(9)
         everything.until("plant/flow-7/_state", LATE, state="looking")
-        everything.until("plant/flow-7/lamp", quality="bad")
-        asked("lamp", "77", ok=False, code="no_relation", reason="no data is exchanged, the state is looking")
+        everything.until("plant/flow-7/slot3_sub3_lamp", quality="bad")
+        asked("slot3_sub3_lamp", "77", ok=False, code="no_relation", reason="no data is exchanged, the state is looking")
         again = self.device_again(wire, device)
         everything.until("plant/flow-7/_state", LATE, state="exchanging")
         again.expect("output 3 3 07", 20)
-        everything.until("plant/flow-7/lamp", quality="good", value=7)
+        everything.until("plant/flow-7/slot3_sub3_lamp", quality="good", value=7)
         same("what was refused is not done later", again.has("output 3 3 4d"), False)
         return answers
 
@@ -685,4 +729,4 @@ def resident(program):
 
 
 def flow_unit(everything):
-    return everything.until("plant/flow-7/flow/about")["unit"]
+    return everything.until("plant/flow-7/slot2_flow/about")["unit"]

@@ -436,53 +436,53 @@ class PythonTests:
             is_soon("its port, and its neighbour", lambda: [(port["name"], [(peer["port"], peer["station"]) for peer in port["peers"]]) for port in flow.info["ports"]] ==
                     [("port-001", [("port-001", "plc")])], 40)
             device.end(signal.SIGKILL)
-            refusal((nandutable.Lost, nandutable.Gone), "no cyclic frame of the device came within the data hold time", flow.wait_change, "flow", 20)
+            refusal((nandutable.Lost, nandutable.Gone), "no cyclic frame of the device came within the data hold time", flow.wait_change, "slot2_flow", 20)
             is_soon("its end", lambda: not plant.running)
-            fault = refusal(nandutable.Gone, "no cyclic frame of the device came within the data hold time", flow.wait_change, "flow", 20)
+            fault = refusal(nandutable.Gone, "no cyclic frame of the device came within the data hold time", flow.wait_change, "slot2_flow", 20)
             same(f"its status: {fault}", fault.status, 4)
-            refusal(nandutable.BadQuality, "flow-7.flow is not good", lambda: flow.flow)
-            refusal(nandutable.Gone, "has ended", setattr, flow, "lamp", 1)
+            refusal(nandutable.BadQuality, "flow-7.slot2_flow is not good", lambda: flow.slot2_flow)
+            refusal(nandutable.Gone, "has ended", setattr, flow, "slot3_sub3_lamp", 1)
         same("each line is known", unknown, [])
 
     def check_values(self, device, flow):
         device.ask("input 2 1 414800000000002a01", "note done")
-        same("a change", flow.wait_until("flow", lambda value: value == 12.5, 20), 12.5)
-        is_soon("the others of its frame", lambda: (flow.flow, flow["total"], flow.pipe_full, flow.slot2_state) == (12.5, 42, True, 1))
-        reading = flow.signal("flow")
+        same("a change", flow.wait_until("slot2_flow", lambda value: value == 12.5, 20), 12.5)
+        is_soon("the others of its frame", lambda: (flow.slot2_flow, flow["slot2_total"], flow.slot2_pipe_full, flow.slot2_state) == (12.5, 42, True, 1))
+        reading = flow.signal("slot2_flow")
         same("a reading", (str(reading), reading.good, reading.unit, reading.type, reading.direction, abs(reading.time - time.time()) < 30),
-             ("flow-7.flow = 12.5 l/s", True, "l/s", "Float32", "input", True))
-        flow.display = 'Hello, "pump" 1'
-        flow.valve_3 = True
-        flow["lamp"] = 255
+             ("flow-7.slot2_flow = 12.5 l/s", True, "l/s", "Float32", "input", True))
+        flow.slot3_sub1_display = 'Hello, "pump" 1'
+        flow.slot4_valve_3 = True
+        flow["slot3_sub3_lamp"] = 255
         device.expect("output 3 1 " + b'Hello, "pump" 1'.ljust(16, bytes(1)).hex())
-        flow.valves = nandutable.Raw("0x0f")
+        flow.slot4_valves = nandutable.Raw("0x0f")
         device.expect("output 4 1 0f")
-        is_soon("the outputs have their values", lambda: (flow.display, flow.valve_4, flow.valves) == ('Hello, "pump" 1', True, 15))
-        same("each signal", [reading.name for reading in flow][:3], ["flow-7.flow", "flow-7.total", "flow-7.slot2_state"])
+        is_soon("the outputs have their values", lambda: (flow.slot3_sub1_display, flow.slot4_valve_4, flow.slot4_valves) == ('Hello, "pump" 1', True, 15))
+        same("each signal", [reading.name for reading in flow][:3], ["flow-7.slot2_flow", "flow-7.slot2_total", "flow-7.slot2_state"])
 
     def check_refusals(self, plant, flow):
-        refusal(nandutable.Refused, "Unsigned8 takes 0 to 255", setattr, flow, "lamp", 256)
-        refusal(nandutable.Refused, "Unsigned8 takes 0 to 255", setattr, flow, "lamp", 1.5)
-        refusal(nandutable.Refused, "VisibleString takes at most 16", setattr, flow, "display", "seventeen letters")
-        refusal(nandutable.Refused, "it is an input", setattr, flow, "flow", 1.0)
+        refusal(nandutable.Refused, "Unsigned8 takes 0 to 255", setattr, flow, "slot3_sub3_lamp", 256)
+        refusal(nandutable.Refused, "Unsigned8 takes 0 to 255", setattr, flow, "slot3_sub3_lamp", 1.5)
+        refusal(nandutable.Refused, "VisibleString takes at most 16", setattr, flow, "slot3_sub1_display", "seventeen letters")
+        refusal(nandutable.Refused, "it is an input", setattr, flow, "slot2_flow", 1.0)
         refusal(nandutable.NoSuchName, "has no signal 'depth'", setattr, flow, "depth", 1)
-        refusal(nandutable.Refused, "has no blanks", plant.commands.set, "flow-7.lamp 1", 1)
-        refusal(ValueError, "no line feed", setattr, flow, "display", "a\nstop")
-        refusal(nandutable.NoSuchName, "flow-7 has no signal 'depth'; there are flow, total", lambda: flow.depth)
+        refusal(nandutable.Refused, "has no blanks", plant.commands.set, "flow-7.slot3_sub3_lamp 1", 1)
+        refusal(ValueError, "no line feed", setattr, flow, "slot3_sub1_display", "a\nstop")
+        refusal(nandutable.NoSuchName, "flow-7 has no signal 'depth'; there are slot2_flow, slot2_total", lambda: flow.depth)
         refusal(nandutable.NoSuchName, "there is no station 'pump-9'; there are flow-7", lambda: plant["pump-9"])
-        same("hasattr", (hasattr(flow, "depth"), hasattr(flow, "flow")), (False, True))
-        refusal(nandutable.TimedOut, "flow-7.flow is 12.5 (within 0.05 s)", flow.wait_until, "flow", lambda value: value > 13, 0.05)
+        same("hasattr", (hasattr(flow, "depth"), hasattr(flow, "slot2_flow")), (False, True))
+        refusal(nandutable.TimedOut, "flow-7.slot2_flow is 12.5 (within 0.05 s)", flow.wait_until, "slot2_flow", lambda value: value > 13, 0.05)
         refusal(nandutable.TimedOut, "flow-7 sends no alarm", flow.wait_alarm, 0.05)
 
     def check_waits(self, device, plant, flow):
         later = threading.Timer(1, lambda: device.say("input 2 1 415800000000002b00"))  # when this program waits
         later.start()
-        same("the next value", flow.wait_change("flow", 20), 13.5)
+        same("the next value", flow.wait_change("slot2_flow", 20), 13.5)
         device.ask("status 2 1 bad", "note done")
-        is_soon("the quality", lambda: not flow.signal("flow").good)
-        refusal(nandutable.BadQuality, "flow-7.flow is not good: the device says that its data are bad", lambda: flow.flow)
+        is_soon("the quality", lambda: not flow.signal("slot2_flow").good)
+        refusal(nandutable.BadQuality, "flow-7.slot2_flow is not good: the device says that its data are bad", lambda: flow.slot2_flow)
         device.ask("status 2 1 good", "note done")
-        same("good again", flow.wait_until("flow", lambda _: True, 20), 13.5)
+        same("good again", flow.wait_until("slot2_flow", lambda _: True, 20), 13.5)
         for number in range(3):
             device.ask(f"alarm 2 1 c0ffe{number}", "note done")
             is_soon("an alarm", lambda: len(plant.state.snapshot()["alarms"]) == number + 1)
@@ -509,8 +509,8 @@ class PythonTests:
         same("several readers at once", told, ["00200038"] * 5)
         flow.restart(20)
         same("it exchanges again", flow.state, "exchanging")
-        same("the outputs are set again", flow.wait_until("lamp", lambda lamp: lamp == 255, 20), 255)
-        same("the inputs come again", flow.wait_until("flow", lambda value: value == 13.5, 20), 13.5)
+        same("the outputs are set again", flow.wait_until("slot3_sub3_lamp", lambda lamp: lamp == 255, 20), 255)
+        same("the inputs come again", flow.wait_until("slot2_flow", lambda value: value == 13.5, 20), 13.5)
 
     def python_several(self, _):
         """Three stations of one controller: names, a station that is not there, one that ends and comes back."""
@@ -585,6 +585,7 @@ class PythonTests:
         environment = {**os.environ, "PYTHONPATH": PYTHON, "NANDUTABLE_CONTROLLER": os.path.join(BUILD, self.kind, "nandutable-controller")}
         ran = subprocess.run([*within, sys.executable, "-m", "nandutable", "--interface", "c0", plan], capture_output=True, text=True, timeout=60, env=environment)
         same(f"its own controller: {ran.stderr}", (ran.returncode, ran.stdout), (0, "pump-1.level = 0 mm\npump-1.speed = 0\n"))
+        self.sets_alone(device, [*within, sys.executable, "-m", "nandutable", "--interface", "c0"], environment)
         controller = self.controller(wire, plan, "--signals", "--times", "--socket", path)
         device.say("input 1 1 0102")
         same("names", [line.split()[:4] for line in self.module_prints("--socket", path, "names").splitlines()],
@@ -597,6 +598,12 @@ class PythonTests:
         same("refused", "Integer16 takes -32768 to 32767" in self.module_prints("--socket", path, "set", "pump-1.speed", "40000", status=1), True)
         same("no such name", "has no signal 'depth'" in self.module_prints("--socket", path, "values", "depth", status=66), True)
         same("the nearest name", "has no signal 'spead'; the nearest: speed" in self.module_prints("--socket", path, "values", "spead", status=66), True)
+        same("of a set", "has no signal 'spead'; the nearest: speed" in self.module_prints("--socket", path, "set", "spead", "1", status=66), True)
+        same("of a get", "has no signal 'spead'; the nearest: speed" in self.module_prints("--socket", path, "get", "spead", status=66), True)
+        same("of another station", "there is no signal 'pump-2.speed'; the nearest: pump-1.speed" in self.module_prints("--socket", path, "get", "pump-2.speed", status=66), True)
+        same("a get", self.module_prints("--socket", path, "get", "speed"), "pump-1.speed = -5\n")
+        same("no such command", "no command 'gett'; did you mean get?" in self.module_prints("--socket", path, "gett", "speed", status=64), True)
+        same("nor a plan", "no command 'valuse'; did you mean values? There is no plan of this name either" in self.module_prints("--interface", "c0", plan, "valuse", status=64), True)
         same("after --", self.module_prints("--socket", path, "--", "values", "speed"), "pump-1.speed = -5\n")
         same("a record", self.module_prints("--socket", path, "read", "pump-1", "0", "1", "0xAFF0")[:8], "00200038")
         same("a refused one", "invalid index" in self.module_prints("--socket", path, "read", "pump-1", "0", "1", "40", status=1), True)
@@ -627,6 +634,22 @@ class PythonTests:
         controller.end()
         same("no controller", "no controller listens at" in self.module_prints("--socket", path, status=2), True)
         device.end()
+
+    def sets_alone(self, device, words, environment):
+        """`set` with a controller that ends with it: each value is at the device before, also if the next frame is far away."""
+        slow = self.signal_plan("pump-1", self.TANK)
+        with open(slow, encoding="utf-8") as file:
+            catalogue = json.load(file)
+        catalogue["Project"].update(SendClockFactor=32, ReductionRatio=128, DataHoldFactor=60)
+        with open(slow, "w", encoding="utf-8") as file:
+            json.dump(catalogue, file)
+        for number in (7, 8, 9):
+            ran = subprocess.run([*words, slow, "set", "speed", str(number)], capture_output=True, text=True, timeout=90, env=environment)
+            same(f"set alone: {ran.stderr}", (ran.returncode, ran.stdout), (0, "pump-1.speed was sent. The relation ends with this command, and the output is 0 again; a controller with --socket keeps it\n"))
+            device.expect(f"output 2 1 {number:04x}$")
+            device.expect("phase none")
+        ran = subprocess.run([*words, slow, "get", "spead"], capture_output=True, text=True, timeout=90, env=environment)
+        same(f"no such name: {ran.stderr}", (ran.returncode, "pump-1 has no signal 'spead'; the nearest: speed" in ran.stderr), (66, True))
 
     def python_letters(self, wire):
         """`watch` where the output lacks a letter of a unit: it is written by its number, and the program goes on."""

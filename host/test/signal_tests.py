@@ -341,60 +341,60 @@ class SignalTests:
             return lacks
         path = self.from_gsdml("examples/gsdml/*FlowStation*.xml", "flow-7", "--slot", "2=FLOW4", "--slot", "3=CARRIER", "--submodule", "3:1=TEXT16")
         controller = self.controller(wire, path, "--signals")
-        controller.ask("set valves 1", "refused set valves: no data is exchanged, the state is looking$")
-        controller.ask("get flow", r"flow-7\.flow = 0 bad$")
+        controller.ask("set slot4_valves 1", "refused set slot4_valves: no data is exchanged, the state is looking$")
+        controller.ask("get slot2_flow", r"flow-7\.slot2_flow = 0 bad$")
         controller.end()
         device = self.device(wire, "signals", "--station", path, name=None)
-        controller = self.controller(wire, path, "--signals", "--deadband", "flow=0.5", "--deadband", "flow-7.total=10", "--assign", "02:00:00:00:00:01", "--retry", "1")
+        controller = self.controller(wire, path, "--signals", "--deadband", "slot2_flow=0.5", "--deadband", "flow-7.slot2_total=10", "--assign", "02:00:00:00:00:01", "--retry", "1")
         controller.expect("state exchanging", 60)
         # Outputs are good at once, inputs with the next frame that says so.
-        controller.expect_each(r"flow-7\.flow = 0 good$", r"flow-7\.valve_8 = false good$")
+        controller.expect_each(r"flow-7\.slot2_flow = 0 good$", r"flow-7\.slot4_valve_8 = false good$")
         # The lines of today stay; those of the signals come too.
         device.ask("input 2 1 40490fdb0000002a01", "note done")
         controller.expect("input 2 1 40490fdb0000002a01$")
-        for line in (r"flow = 3\.1415927", "total = 42", "slot2_state = 1", "pipe_full = true"):
+        for line in (r"slot2_flow = 3\.1415927", "slot2_total = 42", "slot2_state = 1", "slot2_pipe_full = true"):
             controller.expect(rf"flow-7\.{line} good$")
         # Within the deadbands nothing is printed; `get` tells the present value.
         device.ask("input 2 1 405000000000003301", "note done")
         controller.expect("input 2 1 405000000000003301$")
-        controller.ask("get flow-7.flow", r"flow-7\.flow = 3\.25 good$")
-        same("within the deadband", controller.has(r"flow-7\.total = 51"), False)
+        controller.ask("get flow-7.slot2_flow", r"flow-7\.slot2_flow = 3\.25 good$")
+        same("within the deadband", controller.has(r"flow-7\.slot2_total = 51"), False)
         device.ask("input 2 1 406924930000003400", "note done")
-        for line in (r"flow = 3\.6428573", "total = 52", "slot2_state = 0", "pipe_full = false"):
+        for line in (r"slot2_flow = 3\.6428573", "slot2_total = 52", "slot2_state = 0", "slot2_pipe_full = false"):
             controller.expect(rf"flow-7\.{line} good$")
         # The quality.
         device.ask("status 2 1 bad", "note done")
-        controller.expect(r"flow-7\.flow = 0 bad$")
+        controller.expect(r"flow-7\.slot2_flow = 0 bad$")
         device.ask("status 2 1 good", "note done")
-        controller.expect(r"flow-7\.flow = 3\.6428573 good$")
+        controller.expect(r"flow-7\.slot2_flow = 3\.6428573 good$")
         # Outputs by their names. Each leaves the others as they are.
-        for line, octets in (("set valve_3 true", "4 1 04"), ("set flow-7.valve_8 1", "4 1 84"), ("set valve_3 false", "4 1 80"), ("set valves 0x0f", "4 1 0f"),
-                             ('set display "Hello, \\"pump\\" 1"', "3 1 48656c6c6f2c202270756d702220310000"[:36]), ("set lamp 255", "3 3 ff")):
+        for line, octets in (("set slot4_valve_3 true", "4 1 04"), ("set flow-7.slot4_valve_8 1", "4 1 84"), ("set slot4_valve_3 false", "4 1 80"), ("set slot4_valves 0x0f", "4 1 0f"),
+                             ('set slot3_sub1_display "Hello, \\"pump\\" 1"', "3 1 48656c6c6f2c202270756d702220310000"[:36]), ("set slot3_sub3_lamp 255", "3 3 ff")):
             controller.ask(line, f"ok set flow-7.{line.split()[1].removeprefix('flow-7.')}$")
             device.expect(f"output {octets}")
-        controller.expect(r'flow-7\.lamp = 255 good$')
-        same("the text", controller.has(r'flow-7\.display = "Hello, \\"pump\\" 1" good$'), True)
+        controller.expect(r'flow-7\.slot3_sub3_lamp = 255 good$')
+        same("the text", controller.has(r'flow-7\.slot3_sub1_display = "Hello, \\"pump\\" 1" good$'), True)
         controller.ask("give 4 1 80", "state exchanging")
-        controller.expect(r"flow-7\.valves = 128 good$")
+        controller.expect(r"flow-7\.slot4_valves = 128 good$")
         controller.ask("status 4 1 bad", "state exchanging")
-        controller.expect(r"flow-7\.valves = 128 bad$")
+        controller.expect(r"flow-7\.slot4_valves = 128 bad$")
         controller.ask("status 4 1 good", "state exchanging")
-        controller.expect(r"flow-7\.valves = 128 good$")
-        for line, answer in (("set lamp 256", "refused set lamp: Unsigned8 takes 0 to 255"), ("set flow 1", "refused set flow: it is an input"),
+        controller.expect(r"flow-7\.slot4_valves = 128 good$")
+        for line, answer in (("set slot3_sub3_lamp 256", "refused set slot3_sub3_lamp: Unsigned8 takes 0 to 255"), ("set slot2_flow 1", "refused set slot2_flow: it is an input"),
                              ("set nothing 1", "refused set nothing: there is no such signal; names lists them"), ("get x.flow", "refused get x.flow: there is no such signal"),
-                             ("set lamp", "wrong: set NAME VALUE"), ("get", r"wrong: get NAME, or get \*"), ("names x", "wrong: names"), ("get flow total", "wrong: get NAME"),
-                             ("settle lamp 1", "wrong: no such line"), ("set valve_3 2", "refused set valve_3: Boolean takes true or false")):
+                             ("set slot3_sub3_lamp", "wrong: set NAME VALUE"), ("get", r"wrong: get NAME, or get \*"), ("names x", "wrong: names"), ("get slot2_flow slot2_total", "wrong: get NAME"),
+                             ("settle slot3_sub3_lamp 1", "wrong: no such line"), ("set slot4_valve_3 2", "refused set slot4_valve_3: Boolean takes true or false")):
             controller.ask(line, f"{answer}$" if line.startswith("set") and "wrong" not in answer else answer)
-        controller.ask("get lamp", r"flow-7\.lamp = 255 good$")
-        controller.ask("  set \t lamp   7  ", r"ok set flow-7\.lamp$")
+        controller.ask("get slot3_sub3_lamp", r"flow-7\.slot3_sub3_lamp = 255 good$")
+        controller.ask("  set \t slot3_sub3_lamp   7  ", r"ok set flow-7\.slot3_sub3_lamp$")
         device.expect("output 3 3 07")
         # The end and a new begin: each signal is printed, and the outputs are set again.
         controller.say("restart")
         controller.expect("ended 7")
-        for line in (r"flow = 3\.6428573", "valves = 128"):
+        for line in (r"slot2_flow = 3\.6428573", "slot4_valves = 128"):
             controller.expect(rf"flow-7\.{line} bad$")
         controller.expect("state exchanging", 60)
-        controller.expect_each(r"flow-7\.flow = .* good$", r"flow-7\.lamp = 7 good$")
+        controller.expect_each(r"flow-7\.slot2_flow = .* good$", r"flow-7\.slot3_sub3_lamp = 7 good$")
         device.expect("output 3 3 07")
         controller.end()
         device.end()
@@ -411,7 +411,7 @@ class SignalTests:
         controller = self.controller(wire, *plans, "--signals=only", "--times", "--every", "400")
         controller.expect("pump-1 state exchanging", 60)
         found = controller.expect(r"pump-1\.level = 0 good ([0-9]+\.[0-9]{6})$")
-        same("the time is now", abs(float(found[1]) - time.time()) < 5, True)
+        same("the time is now", abs(float(found[1]) - time.time()) < 30, True)
         controller.ask("names", "names 5$")
         names = [line for _, line in controller.lines if line.startswith("name ")]
         same("the second station has none of its own", names[3:], ['name pump.2.slot1_sub1_in input OctetString 2 1 1 0 - "" ""', 'name pump.2.slot2_sub1_out output OctetString 2 2 1 0 - "" ""'])
@@ -434,7 +434,7 @@ class SignalTests:
         same(f"few lines in {took:.2f} s: {lines}", len(lines) <= took / 0.4 + 1, True)
         same(f"times rise: {gaps}", all(gap > 0 for gap in gaps), True)
         device.ask("input 1 1 8000", "note done")
-        controller.expect(r"pump-1\.full = true good", 5)
+        controller.expect(r"pump-1\.full = true good")
         # Nothing in octets.
         same("the lines input and provider", controller.has("pump-1 (input|provider) "), False)
         # The cable is gone: the signals are bad.

@@ -21,6 +21,8 @@ TOOL = bytes.fromhex("020000000002")
 GROUP = bytes.fromhex("010ecf000000")
 CLONE_NEWNET = 0x40000000
 SO_RCVBUFFORCE = 33
+# Seconds for what a test waits for and does not measure: on a machine with other work a program may get no processor for some of them.
+PATIENT = 30
 
 
 def device_of(number):
@@ -36,7 +38,7 @@ class Final(AssertionError):
     """What no late machine explains, such as a setting that was lost: the test is not tried again."""
 
 
-def awaited(what, find, seconds=20):
+def awaited(what, find, seconds=PATIENT):
     """Waits until `find` returns something that counts as true, and returns it."""
     ends = time.monotonic() + seconds
     while not (found := find()):
@@ -199,7 +201,7 @@ class Program:
     def text(self):
         return "\n".join(line for _, line in self.lines) + self.fault.decode(errors="replace")
 
-    def expect(self, pattern, seconds=10):
+    def expect(self, pattern, seconds=PATIENT):
         """The next line whose beginning matches the pattern, after the lines that were expected before."""
         ends = time.monotonic() + seconds
         with self.news:
@@ -215,7 +217,7 @@ class Program:
                 self.news.wait(left)
         raise AssertionError(f"no line '{pattern}' of {os.path.basename(self.words[4])}:\n{self.text()}")
 
-    def expect_each(self, *patterns, seconds=10):
+    def expect_each(self, *patterns, seconds=PATIENT):
         """Lines that match these patterns, in any order, after the lines that were expected before. The next ones come after the last of them."""
         first, last = self.seen, self.seen
         for pattern in patterns:
@@ -229,7 +231,7 @@ class Program:
         with self.news:
             return any(re.match(pattern, line) for _, line in self.lines)
 
-    def sees(self, pattern, seconds=10):
+    def sees(self, pattern, seconds=PATIENT):
         """Waits until the beginning of some line matches."""
         ends = time.monotonic() + seconds
         while not self.has(pattern):
@@ -241,17 +243,17 @@ class Program:
         self.process.stdin.write(line.encode() + b"\n")
         self.process.stdin.flush()
 
-    def ask(self, line, pattern, seconds=10):
+    def ask(self, line, pattern, seconds=PATIENT):
         self.say(line)
         return self.expect(pattern, seconds)
 
-    def end(self, number=15, seconds=10):
+    def end(self, number=15, seconds=PATIENT):
         """Sends a signal and waits. Returns the status."""
         if self.process.poll() is None:
             self.process.send_signal(number)
         return self.wait(seconds)
 
-    def wait(self, seconds=10):
+    def wait(self, seconds=PATIENT):
         try:
             status = self.process.wait(seconds)
         except subprocess.TimeoutExpired:
@@ -285,7 +287,7 @@ class Tap(Program):
         return self.end()
 
 
-def talk_to(path, seconds=5):
+def talk_to(path, seconds=PATIENT):
     """The socket over which a program receives lines, once it listens there."""
     talker = socket.socket(socket.AF_UNIX)
     talker.settimeout(seconds)
@@ -340,7 +342,7 @@ def identify_all(xid):
     return dcp(0xFEFE, 5, xid, block(255, 255, b""), GROUP)
 
 
-def answer(link, frame, frame_id, seconds=5.0):
+def answer(link, frame, frame_id, seconds=PATIENT):
     """Sends a DCP request, and returns the answer with its Xid; None without an answer."""
     link.send(frame)
     ends = time.monotonic() + seconds

@@ -5,7 +5,7 @@ import ipaddress
 import json
 import re
 
-from . import offer
+from . import judge, offer, signals
 from .device import File
 from .elements import LONGEST, Refused, read
 from .station import Station
@@ -42,10 +42,16 @@ submodules. With more words it prints the catalogue of a station:
     --after-plug WHAT             what the controller does after a submodule was
                                   plugged: 'parameters' (it writes the records
                                   again) or 'nothing' (without it)
+    --start WHAT                  what the controller does if the device holds
+                                  its relation already: 'persistent' (it
+                                  releases the relation, so that the next start
+                                  succeeds) or 'plain' (without it)
     --record SLOT:SUBSLOT:INDEX=HEX
                                   the octets of a parameter record, in place of
                                   those by default
     --without SLOT:SUBSLOT:INDEX  leaves a parameter record out
+    --names-of CATALOGUE          signals keep the names that they have in this
+                                  catalogue
 
 A file or a choice that a catalogue cannot hold is refused, with the line of the
 element: status 65. docs/PLANS.md has a walk.
@@ -55,7 +61,7 @@ WRONG_WORDS, WRONG_FILE, NO_FILE = 64, 65, 1
 TEXTS = {"--access-point": "access_point", "--name": "name", "--address": "address", "--mask": "mask", "--gateway": "gateway",
          "--controller-name": "controller_name", "--controller-mac": "controller_mac", "--controller-address": "controller_address",
          "--interval-ms": "interval", "--send-clock": "send_clock", "--reduction": "reduction", "--data-hold": "data_hold",
-         "--on-refused-record": "refused", "--after-plug": "after_plug"}
+         "--on-refused-record": "refused", "--after-plug": "after_plug", "--start": "start", "--names-of": "names_of"}
 LISTS = {"--slot": "slots", "--submodule": "submodules", "--record": "records", "--without": "without"}
 NEEDED = ("--name", "--address", "--controller-name", "--controller-mac", "--controller-address")
 
@@ -71,7 +77,8 @@ class Choice:
         self.access_point = self.name = self.address = self.controller_name = self.controller_mac = self.controller_address = None
         self.mask, self.gateway, self.data_hold = "255.255.255.0", "0.0.0.0", None
         self.interval = self.send_clock = self.reduction = None
-        self.refused, self.after_plug = "end", "nothing"
+        self.refused, self.after_plug, self.start = "end", "nothing", "plain"
+        self.names_of, self.kept_signals = None, []
         self.slots, self.submodules, self.records, self.without = {}, {}, {}, set()
         self.named = set()
         if len(words) % 2:
@@ -101,7 +108,7 @@ class Choice:
             return name(word, value)
         if word == "--interval-ms":
             return interval(word, value)
-        if word == "--access-point":
+        if word in ("--access-point", "--names-of"):
             return value
         if word == "--on-refused-record":
             if value not in ("end", "release", "continue"):
@@ -110,6 +117,10 @@ class Choice:
         if word == "--after-plug":
             if value not in ("parameters", "nothing"):
                 raise WrongWords(f"{word} is 'parameters' or 'nothing', and '{shown(value)}' is not")
+            return value
+        if word == "--start":
+            if value not in ("persistent", "plain"):
+                raise WrongWords(f"{word} is 'persistent' or 'plain', and '{shown(value)}' is not")
             return value
         return number(word, value, 1, {"--send-clock": 128, "--reduction": 512, "--data-hold": 7_680}[word])
 
@@ -154,6 +165,15 @@ class Choice:
             raise WrongWords(f"--controller-address {self.controller_address} is no address of a host")
         for word, given in (("--address", self.address), ("--controller-address", self.controller_address)):
             self.judge_subnet(word, int(ipaddress.IPv4Address(given)), mask)
+
+    def read_names(self):
+        """Reads the signals whose names are kept."""
+        if self.names_of is not None:
+            with open(self.names_of, "rb") as file:
+                octets = file.read(signals.LONGEST + 1)
+            if len(octets) > signals.LONGEST:
+                raise signals.Refused(f"a catalogue has at most {signals.LONGEST:,} octets")
+            _, self.kept_signals = signals.of_catalogue(octets)
 
     def judge_subnet(self, word, given, mask):
         """An address of the subnet is one of a host there, not that of all of its hosts or of the subnet itself."""
@@ -230,6 +250,7 @@ def run(words, say):
         asks_for_offer = not choice.named - {"--access-point"}
         if not asks_for_offer:
             choice.judge()
+            choice.read_names()
         with open(words[0], "rb") as file:
             octets = file.read(LONGEST + 1)
         found = File(read(octets))
@@ -242,8 +263,14 @@ def run(words, say):
         say(f"catalogue: {fault}; ./pnscript catalogue --help has the words")
         return WRONG_WORDS
     except OSError as fault:
-        say(f"{words[0]}: {fault.strerror}")
+        say(f"{fault.filename}: {fault.strerror}")
         return NO_FILE
+    except judge.Fault as fault:
+        say(f"{choice.names_of}: {fault.said()}")
+        return WRONG_FILE
+    except (signals.Refused, RecursionError) as fault:
+        say(f"{choice.names_of}: {fault}")
+        return WRONG_FILE
     except Refused as fault:
         say(f"{words[0]}:{fault.line}: {fault.what}")
         return WRONG_FILE

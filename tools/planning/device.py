@@ -1,10 +1,11 @@
 """What a GSDML file says of a device: its access points, modules and submodules, as far as a catalogue can hold them."""
 
 import difflib
+import itertools
 
 from .elements import Refused
 from . import types
-from .values import bits, ident, number, octets, parameter, shown, values
+from .values import Numbers, bits, ident, number, octets, parameter, shown, values
 
 MOST_SUBSLOT = 36_863
 MOST_SLOT = 32_767
@@ -171,6 +172,12 @@ class Reference:
     def takes(self, place):
         """Whether a place is open to it. Where nothing is said of places, each one is."""
         return self.is_free or any(place in places for places in (self.allowed, self.used, self.fixed))
+
+    def first_two(self, places, own=()):
+        """The first two of some places that are open to it, without the access point's own; or the only one, or none."""
+        mine = Numbers([*self.allowed.pairs, *self.used.pairs, *self.fixed.pairs])
+        found = (place for place in (places if self.is_free else mine.both(places)) if place not in own)
+        return list(itertools.islice(found, 2))
 
 
 class Item:

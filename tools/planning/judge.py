@@ -243,6 +243,7 @@ def project(tree, least, modules):
     flag_at(tree, "ContinueOnRefusedRecord")
     flag_at(tree, "ReleaseOnRefusedRecord")
     flag_at(tree, "ParametersAfterPlug")
+    flag_at(tree, "PersistentStart")
     return texts, slots
 
 

@@ -28,7 +28,7 @@ WANTS = {
         "SendClockFactor": "a whole number from 1 to 128",
         "ReductionRatio": "a whole number from 1 to 512, with SendClockFactor times ReductionRatio at least MinDeviceInterval",
         "DataHoldFactor": "a whole number from 1 to 7,680", "Slots": OBJECTS, "ContinueOnRefusedRecord": FLAG, "ReleaseOnRefusedRecord": FLAG,
-        "ParametersAfterPlug": FLAG},
+        "ParametersAfterPlug": FLAG, "PersistentStart": FLAG},
     "Controller": {"NameOfStation": TEXT, "MAC": TEXT, "IPAddress": TEXT},
     "Slots": {"Slot": "a whole number", "ModuleItemTarget": TEXT, "Records": OBJECTS},
     "Records": {"Subslot": "a whole number from 1 to 36,863", "Index": "a whole number from 0 to 32,767", "Data": "a string of two hex digits for each octet"}}

@@ -5,6 +5,7 @@ from .values import number, shown
 
 UNIT = 0.03125  # milliseconds: 31.25 microseconds
 MOST_OCTETS = 64  # of a record in a catalogue
+MOST_SLOT = 15  # of a catalogue
 
 
 def milliseconds(units):
@@ -54,21 +55,27 @@ def item_lines(file, item, margin):
     return lines
 
 
+def slots_of(numbers, why=""):
+    """The slots that a catalogue has of these, and all of them if it has not all."""
+    some = numbers.up_to(MOST_SLOT)
+    return str(some) if len(some) == len(numbers) else f"{some} (of {numbers}{why})"
+
+
 def places_of(reference, word):
-    said = []
+    said, shows = [], slots_of if word == "slots" else str
     if reference.fixed:
-        said.append(f"fixed in {reference.fixed}")
+        said.append(f"fixed in {shows(reference.fixed)}")
     if reference.used:
-        said.append(f"used in {reference.used}")
+        said.append(f"used in {shows(reference.used)}")
     if reference.allowed:
-        said.append(f"allowed in {reference.allowed}")
+        said.append(f"allowed in {shows(reference.allowed)}")
     return f"{word} {', '.join(said)}" if said else f"{word} not restricted"
 
 
 def point_lines(file, point):
     _, clocks, ratios = point.clocks()
     yield f"access point {shown(point.id)}{titled(point.name)}, ident 0x{point.ident:08x}, type of station {shown(point.station_type())}"
-    yield f"    slots {point.physical()}, itself in {point.own_slots()}"
+    yield f"    slots {slots_of(point.physical(), f'; a catalogue ends with slot {MOST_SLOT}')}, itself in {point.own_slots()}"
     yield f"    interval at least {milliseconds(point.least_interval())}; send clock {clocks}, reduction {ratios}"
     try:
         point.judge()

@@ -1,19 +1,13 @@
-"""The signals of a station: the values in its data, by name. They are made of a GSDML file, checked in a catalogue, and printed."""
+"""The signals of a catalogue: the values in the data of a station, by name. They are checked and printed."""
 
 import json
 import re
-import unicodedata
 
 from . import judge, types
 
-LONGEST_NAME = 64
-LONGEST_SLUG = 40
 LONGEST_TEXT = 80
-LONGEST_UNIT = 16
 MOST_SIGNALS = 32_768
 NAME = re.compile(r"[a-z][a-z0-9_]{0,63}")
-# A unit at the end of a text, such as 'Flow [l/min]': it has a letter, or a sign of percent or degrees.
-UNIT = re.compile(r"(.*\S)\s*\[\s*([^\[\]]*[^\W\d_%°][^\[\]]*|%|°)\s*\]\s*")
 KEYS = {"Name", "Direction", "Slot", "Subslot", "Octet", "Type", "Length", "Bit", "Unit", "Text"}
 WAYS = ("Input", "Output")
 WRONG_CATALOGUE, WRONG_FILE = 5, 65
@@ -23,128 +17,6 @@ LONGEST = 16_777_216
 class Refused(Exception):
     """What is wrong with the signals of a catalogue."""
 
-
-# --- Names, of the texts of a GSDML file
-
-def slug(text):
-    """The letters and digits of a text in lower case, without accents, with `_` between its words; empty if it has none."""
-    plain = unicodedata.normalize("NFKD", text.casefold()).encode("ascii", "ignore").decode()
-    return "_".join(re.findall(r"[a-z0-9]+", plain))[:LONGEST_SLUG].rstrip("_")
-
-
-def parted(text):
-    """A text without the unit at its end, and the unit; nothing if it has none."""
-    found = UNIT.fullmatch(text)
-    return (found[1], found[2].strip()) if found and len(found[2].strip()) <= LONGEST_UNIT else (text, "")
-
-
-class Named:
-    """A signal that gets a name: its entry in the catalogue, and the names that it may have, the shortest one first. `family` is what it has in
-    common with the signals whose names are as long as its own: the bits of an item, and items whose texts differ in numbers alone."""
-
-    def __init__(self, entry, word, slot, subslot, item, family=None):
-        place = f"slot{slot}_sub{subslot}"
-        way = "in" if entry["Direction"] == "Input" else "out"
-        whole = f"{item}_{word}" if item else word
-        self.entry, self.level, self.family = entry, 0, family
-        alone = f"n_{word}" if word[0].isdigit() else word
-        self.names = [name[:LONGEST_NAME].rstrip("_") for name in (alone, f"slot{slot}_{word}", f"{place}_{word}", f"{place}_{whole}", f"{place}_{way}_{whole}")]
-
-    def name(self):
-        return self.names[self.level]
-
-
-def by_name(signals):
-    found = {}
-    for signal in signals:
-        found.setdefault(signal.name(), []).append(signal)
-    return found
-
-
-def numbered(signals):
-    """Gives the signals whose longest names are the same numbers, from the second one on."""
-    groups, names = by_name(signals), {}
-    for name, group in groups.items():
-        number = 1
-        for signal in group:
-            wanted = name if number == 1 else f"{name[:LONGEST_NAME - 6]}_{number}"
-            while wanted in names or (number > 1 and wanted in groups):
-                number += 1
-                wanted = f"{name[:LONGEST_NAME - 6]}_{number}"
-            names[wanted] = signal
-            number += 1
-    for name, signal in names.items():
-        signal.entry["Name"] = name
-
-
-def count_repeats(signals):
-    """Gives each name of the signals that no place tells apart a number at its end: items of one submodule with the same text, and their bits."""
-    groups = {}
-    for signal in signals:
-        groups.setdefault(signal.names[-1], []).append(signal)
-    for longest, group in groups.items():
-        number = 0
-        for signal in group if len(group) > 1 else ():
-            number += 1
-            while f"{longest}_{number}" in groups:
-                number += 1
-            signal.names = [f"{name[:LONGEST_NAME - 6].rstrip('_')}_{number}" for name in signal.names]
-
-
-def give_names(signals):
-    """Gives each signal its name: the shortest of its own that no other has. If a text repeats, each of its signals has its slot in front, then
-    the subslot, the item, the direction; and so has its family."""
-    count_repeats(signals)
-    while True:
-        crowded = [signal for group in by_name(signals).values() if len(group) > 1 for signal in group if signal.level + 1 < len(signal.names)]
-        if not crowded:
-            break
-        families, alone = {signal.family for signal in crowded} - {None}, {id(signal) for signal in crowded}
-        for signal in signals:
-            if id(signal) in alone or signal.family in families:
-                signal.level += 1
-    numbered(signals)
-
-
-def entry_of(way, slot, subslot, octet, kind, length, text, bit=None):
-    text, unit = parted(text)
-    entry = {"Name": "", "Direction": way, "Slot": slot, "Subslot": subslot, "Octet": octet}
-    if bit is not None:
-        entry["Bit"] = bit
-    entry["Type"] = kind
-    if kind in types.SIZED:
-        entry["Length"] = length
-    return {**entry, **({"Unit": unit} if unit else {}), **({"Text": text} if text else {})}
-
-
-def signals_of_item(item, way, slot, subslot, octet, words):
-    """The signals of a data item: itself, and its bits."""
-    word = slug(parted(item.text)[0]) or next(filter(None, map(slug, words)), "input" if way == "Input" else "output")
-    numbered_text = re.sub("[0-9]+", "0", word)
-    yield Named(entry_of(way, slot, subslot, octet, item.kind, item.length, item.text), word, slot, subslot, "",
-                (slot, subslot, way, numbered_text) if numbered_text != re.sub("[0-9]", "", word) else None)
-    for number, text in item.bits:
-        at, bit = types.place_of_bit(item.kind, item.length, number)
-        of_bit = slug(parted(text)[0]) or f"{word}_bit{number}"
-        yield Named(entry_of(way, slot, subslot, octet + at, types.BOOLEAN, 1, text, bit), of_bit, slot, subslot, word, (slot, subslot, way, octet))
-
-
-def of_station(parts, modules):
-    """The entries of Signals, of the submodules by slot (with their subslots), and of the modules by slot."""
-    named = []
-    for slot, found in sorted(parts.items()):
-        module = modules[slot].name if slot in modules else ""
-        for subslot, part in found:
-            for way in WAYS:
-                octet = 0
-                for item in part.items(way):
-                    named += signals_of_item(item, way, slot, subslot, octet, (part.name, module))
-                    octet += item.length
-    give_names(named)
-    return [signal.entry for signal in named]
-
-
-# --- Signals of a catalogue
 
 def default(plugged):
     """The signals of a catalogue that names none: the data of each submodule in each direction."""

@@ -1,11 +1,10 @@
 """The catalogue of a station, of what a GSDML file says and what was chosen. What a catalogue cannot hold is refused with a line of the file."""
 
-from . import signals
+from . import names as naming
 from .elements import Refused
-from .offer import MOST_OCTETS, milliseconds
+from .offer import MOST_OCTETS, MOST_SLOT, milliseconds
 from .values import number, shown
 
-MOST_SLOT = 15
 MOST_PARTS = 4
 MOST_RECORDS = 2
 MOST_ALL_RECORDS = 32
@@ -34,6 +33,8 @@ class Station:
             raise Refused(self.point.line, f"its access point is in slot {self.point.own_slots()}, and only slot 0 is served")
         self.point.judge()
         self.modules = self.plugged()
+        # What allows a submodule that is plugged in its subslot, by slot and subslot.
+        self.plugged_parts = {}
         # By slot: subslot and submodule, subslots ascending.
         self.parts = {slot: self.parts_of(slot, item) for slot, item in [(0, self.point), *self.modules.items()]}
         chosen = set(choice.submodules) - self.known_places
@@ -94,7 +95,8 @@ class Station:
         if not reference.takes(slot):
             raise Refused(reference.line, f"{shown(reference.target)} is not allowed in slot {slot}")
         if slot > MOST_SLOT:
-            raise Refused(reference.line, f"slot {slot} is above {MOST_SLOT}, the last that a catalogue has")
+            way_out = f"; --slot {slot}= leaves it empty" if slot in reference.used and slot not in self.choice.slots else ""
+            raise Refused(reference.line, f"slot {slot} is above {MOST_SLOT}, the last that a catalogue has{way_out}")
 
     def parts_of(self, slot, item):
         """The submodules of a slot: those built in, and those that are fixed, used or chosen."""
@@ -107,6 +109,7 @@ class Station:
             if subslot in found:
                 raise Refused(reference.line, f"subslot {subslot} has a submodule already, that of line {found[subslot].line}")
             found[subslot] = self.file.submodule(reference.target, reference.line)
+            self.plugged_parts[slot, subslot] = reference
         if len(found) > MOST_PARTS:
             raise Refused(item.line, f"in slot {slot} it has {len(found)} submodules, and a catalogue has at most {MOST_PARTS}")
         for subslot, part in found.items():
@@ -328,4 +331,5 @@ class Station:
             "SendClockFactor": self.send_clock, "ReductionRatio": self.ratio, "DataHoldFactor": self.data_hold(), "Slots": slots}
         key = {"continue": "ContinueOnRefusedRecord", "release": "ReleaseOnRefusedRecord"}.get(choice.refused)
         after_plug = {"ParametersAfterPlug": True} if choice.after_plug == "parameters" else {}
-        return {**said, **({key: True} if key else {}), **after_plug, "Signals": signals.of_station(self.parts, self.modules)}
+        start = {"PersistentStart": True} if choice.start == "persistent" else {}
+        return {**said, **({key: True} if key else {}), **after_plug, **start, "Signals": naming.of_station(self)}

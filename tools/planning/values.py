@@ -46,11 +46,26 @@ class Numbers:
             else:
                 self.pairs.append([first, last])
 
+    def up_to(self, most):
+        """Those of them up to a number."""
+        return Numbers((first, min(last, most)) for first, last in self.pairs if first <= most)
+
     def __contains__(self, wanted):
         return any(first <= wanted <= last for first, last in self.pairs)
 
     def __iter__(self):
         return (number for first, last in self.pairs for number in range(first, last + 1))
+
+    def both(self, other):
+        """The numbers that are in another list too, ascending."""
+        mine, theirs = iter(self.pairs), iter(other.pairs)
+        one, two = next(mine, None), next(theirs, None)
+        while one and two:
+            yield from range(max(one[0], two[0]), min(one[1], two[1]) + 1)
+            if one[1] < two[1]:
+                one = next(mine, None)
+            else:
+                two = next(theirs, None)
 
     def __len__(self):
         return sum(last - first + 1 for first, last in self.pairs)

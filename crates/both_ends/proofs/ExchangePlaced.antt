@@ -56,7 +56,7 @@ use Rattle.controller_core.specs.declared.stored.state.State.{State}
 use Rattle.controller_core.specs.declared.stored.state.State.TheVariants.{Looking, Addressing, Ending, Waiting, Exchanging, Ended}
 use Rattle.controller_messages.specs.Access.{Accessing, is_rejected, is_reply, record_in}
 use Rattle.controller_core.specs.stored.Alarms.{ack_of, is_alarm as is_of_relation, kept_alarm}
-use Rattle.controller_core.specs.start_up.Answers.{is_addressed, is_answer, is_found, is_ready, is_refused, is_right, is_set_answer}
+use Rattle.controller_core.specs.start_up.Answers.{is_addressed, is_answer, is_found, is_held, is_ready, is_refused, is_right, is_set_answer}
 use Rattle.connects.specs.answers.Connect.{Chosen, chosen_of, found_in, is_whole, nothing}
 use Rattle.controller_core.specs.declared.start_up.outcomes.Outcomes.{Outcomes}
 use Rattle.controller_core.specs.declared.start_up.outcomes.Outcomes.TheVariants.{AllWritten, Unreadable}
@@ -197,6 +197,11 @@ module _ (setup : Setup) (mac : Mac) (apart : mac ≡ setup.plan.controller.mac 
 
   undone_placed : (live : Live) (status : Status) (request : Request) → IsPlaced mac live → PlacedTurn (undone setup live status request)
   undone_placed live status (asks.Write number) p = passed_placed live number (first_of setup.plan number) status p
+  undone_placed live status asks.Connect p =
+      let next : Live = record live { refusal = Some status } in
+      either (is_held setup.plan status) _ _
+      (released_placed _ next (record { plain = p.plain; partner = p.partner; asking = p.asking; giving = p.giving; addressing = p.addressing }))
+      (denied_placed status live p)
   undone_placed live status request p = denied_placed status live p
 
   handled_placed : (live : Live) (response : Response) (request : Request) → live.asked ≡ Some request → (request ≡ asks.Connect → is_done response.status ≡ true → IsChosenWell response.blocks) → IsPlaced mac live

@@ -26,7 +26,7 @@ use Rattle.controller_core.specs.declared.stored.state.Cause.TheVariants as caus
 use Rattle.controller_core.specs.declared.stored.state.State.{State}
 use Rattle.controller_core.specs.declared.stored.state.State.TheVariants.{Ended, Waiting}
 use Rattle.controller_messages.specs.Access.{Accessing, is_reply, record_in}
-use Rattle.controller_core.specs.start_up.Answers.{is_answer}
+use Rattle.controller_core.specs.start_up.Answers.{is_answer, is_held}
 use Rattle.connects.specs.answers.Connect.{Chosen, chosen_of, found_in, is_whole, nothing}
 use Rattle.controller_core.specs.declared.start_up.outcomes.Outcomes.{Outcomes}
 use Rattle.controller_core.specs.declared.start_up.outcomes.Outcomes.TheVariants.{AllWritten, Unreadable}
@@ -155,6 +155,11 @@ module _ (setup : Setup) (good : IsSetup setup) where
 
   undone_right : (live : Live) (status : Status) (request : Request) → IsLive live → IsRight setup (undone setup live status request)
   undone_right live status (asks.Write number) is = passed_right live number (first_of setup.plan number) status is
+  undone_right live status asks.Connect is =
+      let next : Live = record live { refusal = Some status } in
+      let same : IsLive next =
+      record { device = is.device; asked = is.asked; way = is.way; few = is.few; high = is.high; low = is.low; access = is.access } in
+      either (is_held setup.plan status) _ _ (λ held. released_right cause.Refused next same) (λ not. stays_right (over cause.Refused next) (over_live cause.Refused next same))
   undone_right live status request is =
       stays_right (denied status live) (record { device = is.device; asked = tt; way = is.way; few = is.few; high = is.high; low = is.low; access = (tt, tt) })
 

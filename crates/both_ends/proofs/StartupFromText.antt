@@ -104,7 +104,8 @@ project_below least modules tree found e =
     let h = bind_ok (flag_at key.ContinueOnRefusedRecord tree) _ found g.2 in
     let k = bind_ok (flag_at key.ReleaseOnRefusedRecord tree) _ found h.2 in
     let m = bind_ok (flag_at key.ParametersAfterPlug tree) _ found k.2 in
-    subst (λ (p : Project). AllByRecursion AreBelow p.slots) (ok_is {F = PlacedFault} _ found m.2)
+    let n = bind_ok (flag_at key.PersistentStart tree) _ found m.2 in
+    subst (λ (p : Project). AllByRecursion AreBelow p.slots) (ok_is {F = PlacedFault} _ found n.2)
     (list_is (λ _ entry. slot_item modules entry) AreBelow (slot_below modules) key.Slots tree g.0 g.1)
 
 catalogue_below : (tree : Data) (found : Catalogue) → catalogue tree ≡ Ok found → AllByRecursion AreBelow found.project.slots

@@ -33,6 +33,7 @@ pub record Project : Type 0 where
   pub continue_on_refused_record : Bool
   pub release_on_refused_record : Bool
   pub parameters_after_plug : Bool
+  pub persistent_start : Bool
 
 -- the station's name and IP suite
 unfoldable pub station : Reader Station
@@ -75,6 +76,7 @@ project least_interval modules tree =
     flag_at key.ContinueOnRefusedRecord tree >>= λ continue_on_refused_record.
     flag_at key.ReleaseOnRefusedRecord tree >>= λ release_on_refused_record.
     flag_at key.ParametersAfterPlug tree >>= λ parameters_after_plug.
+    flag_at key.PersistentStart tree >>= λ persistent_start.
     Ok (record {
       station = station;
       controller = controller;
@@ -85,4 +87,5 @@ project least_interval modules tree =
       continue_on_refused_record = continue_on_refused_record;
       release_on_refused_record = release_on_refused_record;
       parameters_after_plug = parameters_after_plug;
+      persistent_start = persistent_start;
     })

@@ -64,6 +64,8 @@ pub struct Project {
     pub release_on_refused_record: bool,
     /// Whether the controller writes the records of a submodule again after it was plugged.
     pub parameters_after_plug: bool,
+    /// Whether the controller releases a relation that the device holds already (a Connect that is refused with State conflict).
+    pub persistent_start: bool,
 }
 
 impl Model for Project {
@@ -79,6 +81,7 @@ impl Model for Project {
       continue_on_refused_record = item.continue_on_refused_record;
       release_on_refused_record = item.release_on_refused_record;
       parameters_after_plug = item.parameters_after_plug;
+      persistent_start = item.persistent_start;
     } };
 }
 
@@ -155,6 +158,7 @@ pub(crate) fn project_of(
     let continue_on_refused_record = flag_at(tree, Key::ContinueOnRefusedRecord)?;
     let release_on_refused_record = flag_at(tree, Key::ReleaseOnRefusedRecord)?;
     let parameters_after_plug = flag_at(tree, Key::ParametersAfterPlug)?;
+    let persistent_start = flag_at(tree, Key::PersistentStart)?;
     Ok(Project {
         station,
         controller,
@@ -165,5 +169,6 @@ pub(crate) fn project_of(
         continue_on_refused_record,
         release_on_refused_record,
         parameters_after_plug,
+        persistent_start,
     })
 }

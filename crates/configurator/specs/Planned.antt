@@ -48,6 +48,7 @@ parts_of found addresses = record {
   release_on_refused_record = found.project.release_on_refused_record;
   multiple_write = found.access_point.multiple_write;
   parameters_after_plug = found.project.parameters_after_plug;
+  persistent_start = found.project.persistent_start;
 }
 
 -- ---- the whole catalogue

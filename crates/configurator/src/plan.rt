@@ -53,6 +53,7 @@ fn parts_of(catalogue: &Catalogue, names: Names, addresses: Addresses) -> Parts
         release_on_refused_record: project.release_on_refused_record,
         multiple_write: catalogue.access_point.multiple_write,
         parameters_after_plug: project.parameters_after_plug,
+        persistent_start: project.persistent_start,
     }
 }
 

@@ -149,6 +149,7 @@ parts_of written = record {
   release_on_refused_record = not (written.release_on_refused_record == 0);
   multiple_write = not (written.multiple_write == 0);
   parameters_after_plug = not (written.parameters_after_plug == 0);
+  persistent_start = not (written.persistent_start == 0);
 }
 
 -- ---- the same, in the form in which it is used
@@ -202,5 +203,5 @@ is_plan written = fault_of written == 0
 -- plan, or an ARUUID that is zero.
 abbrev pub why_not_made : ℕ → ℕ → ℕ → WrittenPlan → List ℕ → ℕ
 why_not_made size abi op_size written ar =
-    if not (abi == 9 && op_size == 1680) then 2 else
+    if not (abi == 10 && op_size == 1680) then 2 else
     (if nat_lt size 40960 then 3 else (if not (is_plan written) then 16 else (if is_nil_bytes ar then 16 else 0)))

@@ -30,7 +30,7 @@ use station_names::check;
 use uuid::Uuid;
 
 /// The version of the header.
-const ABI: u32 = 9;
+const ABI: u32 = 10;
 
 /// The number of octets of the memory for a port.
 const ROOM: usize = 40960;
@@ -100,6 +100,8 @@ pub struct WrittenPlan {
     pub waiting_patience: u32,
     /// Whether the controller writes the records of a submodule again after it was plugged: 0 for no.
     pub parameters_after_plug: u32,
+    /// Whether the controller sends a Release when its Connect is refused with State conflict: 0 for no.
+    pub persistent_start: u32,
 }
 
 /// Why no controller is made from this plan, or 0: another version or size of an operation than the library's, too
@@ -491,6 +493,7 @@ fn parts_in(written: &WrittenPlan) -> Parts
         release_on_refused_record: written.release_on_refused_record != 0,
         multiple_write: written.multiple_write != 0,
         parameters_after_plug: written.parameters_after_plug != 0,
+        persistent_start: written.persistent_start != 0,
     }
 }
 

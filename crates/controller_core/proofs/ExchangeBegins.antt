@@ -56,7 +56,7 @@ use Rattle.controller_core.specs.declared.stored.state.State.{State}
 use Rattle.controller_core.specs.declared.stored.state.State.TheVariants.{Looking, Addressing, Connecting, Writing, Ending, Waiting, Exchanging, Ended}
 use Rattle.controller_core.specs.stored.State.{Controlling, Live}
 use Rattle.controller_core.specs.stored.Alarms.{ack_of, is_alarm}
-use Rattle.controller_core.specs.start_up.Answers.{is_addressed, is_answer, is_found, is_ready, is_refused, is_right, is_set_answer, ready_in}
+use Rattle.controller_core.specs.start_up.Answers.{is_addressed, is_answer, is_found, is_held, is_ready, is_refused, is_right, is_set_answer, ready_in}
 use Rattle.controller_core.specs.start_up.Outcomes.{outcomes_of}
 use Rattle.controller_core.specs.Machine.{Turn, acked_under, acking, after_turn, after_write, alarmed, answered, begun_by, begun_turn, behind_data, beside, brings, brought, called, can_begin, can_request, come, connected, decided, done, end_of, exchange_later, flowed, given, gone_on, granted, handled, is_again, is_plug_awaited, is_spent, keeping, later, noted, noticed, past_record, placed, plug_called, plug_finished, plug_passed_by, plug_refused, plug_replied, plug_responded, quit, rated, readied, refused, refused_beside, refused_by, refused_place, rejected, related_by, replied, requested, responded, standing, stays, step_of, taken, ticked, turn_due, turn_of, turned, undone, with_end, writing, written}
 use Rattle.controller_core.specs.Readied.{IsReadied}
@@ -145,7 +145,7 @@ module _ (setup : Setup) (live : Live) where
   undone_goes status (asks.Write number) e = passes number (noted status (first_of setup.plan number) live) e
   undone_goes status asks.Identify e = absurd cc
   undone_goes status asks.Address e = absurd cc
-  undone_goes status asks.Connect e = absurd cc
+  undone_goes status asks.Connect e = either live _ _ (is_held setup.plan status) (λ e. absurd cc) (λ e. absurd cc) e
   undone_goes status asks.PrmEnd e = absurd cc
   undone_goes status (asks.Release sequence) e = absurd cc
 

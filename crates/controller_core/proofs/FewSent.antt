@@ -32,7 +32,7 @@ use Rattle.controller_core.specs.declared.start_up.outcomes.Outcomes.TheVariants
 use Rattle.controller_core.specs.declared.start_up.outcomes.Outcomes.TheVariants.{Refused as Denied}
 use Rattle.controller_core.specs.stored.State.{Live}
 use Rattle.controller_core.specs.stored.Alarms.{is_alarm}
-use Rattle.controller_core.specs.start_up.Answers.{is_answer, is_refused}
+use Rattle.controller_core.specs.start_up.Answers.{is_answer, is_held, is_refused}
 use Rattle.controller_core.specs.start_up.Outcomes.{outcomes_of}
 use Rattle.controller_core.specs.Machine.{Turn, after_write, alarmed, behind_data, beside, connected, decided, done, end_of, handled, is_plug_awaited, noted, noticed, past_record, placed, plug_called, plug_replied, plugs_by, refused, refused_by, related_by, responded, standing, stays, taken, undone, writing}
 
@@ -87,7 +87,7 @@ module _ (setup : Setup) (live : Live) where
   undone_few status (asks.Write number) = passes number (noted status (first_of setup.plan number) live)
   undone_few status asks.Identify = omega arith
   undone_few status asks.Address = omega arith
-  undone_few status asks.Connect = omega arith
+  undone_few status asks.Connect = either _ _ (is_held setup.plan status) (omega arith) (omega arith)
   undone_few status asks.PrmEnd = omega arith
   undone_few status (asks.Release sequence) = omega arith
 

@@ -76,7 +76,7 @@ use Rattle.plan_places.specs.Records.{record_from}
 use Rattle.controller_messages.specs.Access.{answered_with, call_number, dropped, is_free, is_rejected, is_reply, made, no_access, plugged, record_in, unplugged}
 use Rattle.controller_core.specs.stored.Outputs.{awaits, change_by, iops_of, mark_at, marked}
 use Rattle.controller_core.specs.stored.State.{Controlling, Live, is_limited, left_in, phase_for, with_live}
-use Rattle.controller_core.specs.start_up.Answers.{is_addressed, is_answer, is_found, is_ready, is_refused, is_right, is_set_answer, ready_in}
+use Rattle.controller_core.specs.start_up.Answers.{is_addressed, is_answer, is_found, is_held, is_ready, is_refused, is_right, is_set_answer, ready_in}
 use Rattle.connects.specs.answers.Connect.{Chosen, chosen_of, found_in, is_whole, nothing}
 use Rattle.controller_core.specs.declared.start_up.outcomes.Outcomes.{Outcomes}
 use Rattle.controller_core.specs.declared.start_up.outcomes.Outcomes.TheVariants.{AllWritten, Unreadable}
@@ -214,9 +214,15 @@ done setup live blocks (asks.Write number) = after_write setup live number (outc
 done setup live blocks asks.PrmEnd = stays (record live { phase = Waiting; asked = None; left = setup.options.waiting_patience })
 done setup live blocks (asks.Release sequence) = stays (record live { asked = None })
 
+-- The device refuses the Connect with this status: the controller ends. If the device holds the relation already, it is informed.
+abbrev pub refused_connect : Setup → Live → Status → Turn
+refused_connect setup live status =
+    if is_held setup.plan status then released setup cause.Refused (record live { refusal = Some status }) else stays (denied status live)
+
 -- After a negative response.
 abbrev pub undone : Setup → Live → Status → Request → Turn
 undone setup live status (asks.Write number) = past_record setup number (noted status (first_of setup.plan number) live)
+undone setup live status asks.Connect = refused_connect setup live status
 undone setup live status request = stays (denied status live)
 
 -- After any response: the status decides, but the response to a Release counts with any status.

@@ -17,7 +17,7 @@ ghost use Rattle.controller_core.specs.Machine.{accesses_of, accessing, after_tu
 ghost use Rattle.controller_core.specs.Machine.{acks_of, addressed, alarmed, answered, asking, called, come, connected, connected_by};
 ghost use Rattle.controller_core.specs.Machine.{brought, decided, denied, done, due_frames, ended_by, exchange_later, flowed, found, given};
 ghost use Rattle.controller_core.specs.Machine.{after_write, gone_on, is_again, handled, later, noted, outputs_of, past_record};
-ghost use Rattle.controller_core.specs.Machine.{rated, readied, refused, refused_by, refused_record as ended_by_record, related_by, released, remarked, requests_of, responded, step_of};
+ghost use Rattle.controller_core.specs.Machine.{rated, readied, refused, refused_by, refused_connect, refused_record as ended_by_record, related_by, released, remarked, requests_of, responded, step_of};
 ghost use Rattle.controller_core.specs.start_up.Answers.{ready_in as block_of_ready};
 ghost use Rattle.controller_core.specs.Machine.{is_spent, quit, ticked, turn_due, turn_of, turned, undone, where_due, writing};
 ghost use Rattle.frame_codec.specs.Outbox.{boxed};
@@ -25,8 +25,8 @@ ghost use Rattle.pn_alarms.specs.Sending.{due};
 ghost use Rattle.pn_alarms.specs.Sending.{is_again as is_repeated};
 
 use crate::start_up::{
-    Outcomes, is_addressed, is_answer, is_found, is_ready, is_refused, is_right, is_set_answer,
-    next_sequence, outcomes_of, ready_in, request_behind,
+    Outcomes, is_addressed, is_answer, is_found, is_held, is_ready, is_refused, is_right,
+    is_set_answer, next_sequence, outcomes_of, ready_in, request_behind,
 };
 use crate::stored::{
     SECOND, awaits, cause_of, change, header_of, iops_in, is_alarm, is_limited, left_in, phase_for,
@@ -542,11 +542,24 @@ impl Controller {
                 let first = first_of(&self.setup.plan, number);
                 self.refuse_record(number, first, status, outbox);
             }
-            Request::Identify
-            | Request::Address
-            | Request::Connect
-            | Request::PrmEnd
-            | Request::Release(_) => self.deny(status),
+            Request::Connect => self.refuse_connect(status, outbox),
+            Request::Identify | Request::Address | Request::PrmEnd | Request::Release(_) => {
+                self.deny(status);
+            }
+        }
+    }
+
+    // The device refuses the Connect with this status: ends, and informs the device if it holds the relation already.
+    fn refuse_connect(&mut self, status: Status, outbox: &mut Outbox)
+        requires empty { outbox.old.items ≡ [] }
+        ensures state { self.new ≡ with_live self.old (refused_connect self.old.setup self.old.live status).live }
+        ensures frames { boxed outbox.new ≡ map (bytes_of self.old.setup) (refused_connect self.old.setup self.old.live status).sent }
+    {
+        if is_held(&self.setup.plan, status) {
+            self.refusal = Some(status);
+            self.release(Cause::Refused, outbox);
+        } else {
+            self.deny(status);
         }
     }
 

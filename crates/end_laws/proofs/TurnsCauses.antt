@@ -63,7 +63,7 @@ use Rattle.controller_core.specs.declared.stored.state.Cause.{Cause}
 use Rattle.controller_core.specs.declared.stored.state.Cause.TheVariants as why
 use Rattle.controller_core.specs.declared.stored.state.State.{State}
 use Rattle.controller_core.specs.declared.stored.state.State.TheVariants.{Looking, Addressing, Connecting, Writing, Ending, Waiting, Exchanging, Ended}
-use Rattle.controller_core.specs.start_up.Answers.{ident_bytes, is_addressed, is_answer, is_found, is_identify, is_ready, is_refused, is_reported, is_right, is_set_answer, ready_in}
+use Rattle.controller_core.specs.start_up.Answers.{ident_bytes, is_addressed, is_answer, is_found, is_held, is_identify, is_ready, is_refused, is_reported, is_right, is_set_answer, is_state_conflict, ready_in}
 use Rattle.controller_core.specs.start_up.Outcomes.{is_all_written, outcomes_of}
 use Rattle.controller_core.specs.stored.Alarms.{ack_of, is_alarm, kept_alarm}
 use Rattle.controller_core.specs.stored.State.{Controlling, Live, is_limited, phase_for}
@@ -116,7 +116,7 @@ identify_is Set e = absurd (false≢true e)
 module _ (setup : Setup) (live : Live) (going : has_ended live.phase ≡ false) where
   -- If a turn ends the controller, it is for the cause of what comes, and the device learns of it.
   record IsFor (came : Came) (turn : Turn) : Type 0 where
-    caused : (cause : Cause) → turn.live.phase ≡ Ended cause → HasCause setup live came cause × IsToldAs setup live cause (map (bytes_of setup) turn.sent)
+    caused : (cause : Cause) → turn.live.phase ≡ Ended cause → HasCause setup live came cause × IsToldAs setup live came cause (map (bytes_of setup) turn.sent)
 
   moves : {came : Came} (turn : Turn) → has_ended turn.live.phase ≡ false → IsFor came turn
   moves turn goes = record { caused = λ cause e. absurd (not_ended turn.live.phase cause goes e) }
@@ -127,18 +127,18 @@ module _ (setup : Setup) (live : Live) (going : has_ended live.phase ≡ false) 
   rests : {came : Came} → IsFor came (stays live)
   rests = keeps (stays live) refl
 
-  ends : {came : Came} (mine : Cause) (next : Live) (sent : List Sent) → HasCause setup live came mine → IsToldAs setup live mine (map (bytes_of setup) sent)
+  ends : {came : Came} (mine : Cause) (next : Live) (sent : List Sent) → HasCause setup live came mine → IsToldAs setup live came mine (map (bytes_of setup) sent)
       → IsFor came (record { live = over mine next; sent = sent })
   ends {came = came} mine next sent is told = record {
-    caused = λ cause e. subst (λ (c : Cause). HasCause setup live came c × IsToldAs setup live c (map (bytes_of setup) sent)) (same_cause mine cause e) (is, told);
+    caused = λ cause e. subst (λ (c : Cause). HasCause setup live came c × IsToldAs setup live came c (map (bytes_of setup) sent)) (same_cause mine cause e) (is, told);
   }
 
   releases : {came : Came} (mine : Cause) (next : Live) → next.device ≡ live.device → HasCause setup live came mine
-      → (IsReleaseAlone setup live (map (bytes_of setup) (released setup mine next).sent) → IsToldAs setup live mine (map (bytes_of setup) (released setup mine next).sent))
+      → (IsReleaseAlone setup live (map (bytes_of setup) (released setup mine next).sent) → IsToldAs setup live came mine (map (bytes_of setup) (released setup mine next).sent))
       → IsFor came (released setup mine next)
   releases {came = came} mine next same is told = record {
     caused = λ cause e.
-        subst (λ (c : Cause). HasCause setup live came c × IsToldAs setup live c (map (bytes_of setup) (released setup mine next).sent)) (same_cause mine cause e)
+        subst (λ (c : Cause). HasCause setup live came c × IsToldAs setup live came c (map (bytes_of setup) (released setup mine next).sent)) (same_cause mine cause e)
         (is, told (_, ap (λ (device : Mac). map (bytes_of setup) (released setup mine (record next { device = device })).sent) same));
   }
 
@@ -270,7 +270,7 @@ module _ (setup : Setup) (live : Live) (going : has_ended live.phase ≡ false) 
         either setup.plan.continue_on_refused_record
         (writes_for (writing_from setup.plan (number + 1)) (noted status refused live))
         (by_cases setup.plan.release_on_refused_record
-        (λ informs. releases why.Refused (noted status refused live) refl is (λ alone. inr (informs, alone)))
+        (λ informs. releases why.Refused (noted status refused live) refl is (λ alone. inr (inl informs, alone)))
         (λ silent. ends why.Refused (noted status refused live) [] is (inl refl)))
 
     negative : (request : Request) → live.asked ≡ Some request → is_answer setup request response.header ≡ true → IsNegative setup live.asked response → IsRefusal setup live heard_now
@@ -296,6 +296,14 @@ module _ (setup : Setup) (live : Live) (going : has_ended live.phase ≡ false) 
     undone_for : (request : Request) → live.asked ≡ Some request → is_answer setup request response.header ≡ true → is_done response.status ≡ false
         → IsFor heard_now (undone setup live response.status request)
     undone_for (asks.Write number) stood right denies = passed_for number (first_of setup.plan number) response.status (negative (asks.Write number) stood right (inl denies))
+    undone_for asks.Connect stood right denies =
+        let refuses = negative asks.Connect stood right (inl denies) in
+        let next : Live = record live { refusal = Some response.status } in
+        by_cases (is_held setup.plan response.status)
+        (λ held. let parts = and_parts setup.plan.persistent_start (is_state_conflict response.status) held in
+        releases why.Refused next refl refuses
+        (λ alone. inr (inr (parts.0, record { response = response; comes = refl; connects = stood; conflicts = parts.1 }), alone)))
+        (λ other. ends why.Refused next [] refuses (inl refl))
     undone_for request stood right denies = ends why.Refused (record live { refusal = Some response.status }) [] (negative request stood right (inl denies)) (inl refl)
 
     decided_for : (request : Request) → live.asked ≡ Some request → is_answer setup request response.header ≡ true → IsFor heard_now (decided setup live response request)
@@ -486,7 +494,7 @@ module _ (setup : Setup) (live : Live) (going : has_ended live.phase ≡ false) 
 
   -- the cause of an end that the controller chooses, in any state from the Connect on, or before
   quit_for : {came : Came} (mine : Cause) (next : Live) (phase : State) → live.phase ≡ phase → next.device ≡ live.device → HasCause setup live came mine
-      → ((frames : List (List ℕ)) → IsReleaseFromConnect setup live phase frames → IsToldAs setup live mine frames) → IsFor came (quit setup mine next phase)
+      → ((frames : List (List ℕ)) → IsReleaseFromConnect setup live phase frames → IsToldAs setup live came mine frames) → IsFor came (quit setup mine next phase)
   quit_for mine next Looking is same has told = ends mine next [] has (told [] refl)
   quit_for mine next Addressing is same has told = ends mine next [] has (told [] refl)
   quit_for mine next Connecting is same has told = releases mine next same has (λ alone. told _ alone)

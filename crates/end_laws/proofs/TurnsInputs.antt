@@ -58,7 +58,7 @@ use Rattle.controller_core.specs.declared.stored.state.Cause.{Cause}
 use Rattle.controller_core.specs.declared.stored.state.Cause.TheVariants as why
 use Rattle.controller_core.specs.declared.stored.state.State.{State}
 use Rattle.controller_core.specs.declared.stored.state.State.TheVariants.{Looking, Addressing, Connecting, Writing, Ending, Waiting, Exchanging, Ended}
-use Rattle.controller_core.specs.start_up.Answers.{is_addressed, is_answer, is_found, is_ready, is_refused, is_right, is_set_answer, ready_in}
+use Rattle.controller_core.specs.start_up.Answers.{is_addressed, is_answer, is_found, is_held, is_ready, is_refused, is_right, is_set_answer, ready_in}
 use Rattle.controller_core.specs.start_up.Outcomes.{outcomes_of}
 use Rattle.controller_core.specs.stored.Alarms.{ack_of, is_alarm, kept_alarm}
 use Rattle.controller_core.specs.stored.Cause.{cause_of}
@@ -154,6 +154,8 @@ module _ (setup : Setup) (live : Live) where
 
   undone_goes : (status : Code) (request : Request) → Goes (undone setup live status request)
   undone_goes status (asks.Write number) = passed_goes number (first_of setup.plan number) status
+  undone_goes status asks.Connect =
+      let next : Live = record live { refusal = Some status } in either (is_held setup.plan status) (releases why.Refused next refl) (ends why.Refused next [] refl)
   undone_goes status request = ends why.Refused (record live { refusal = Some status }) [] refl
 
   decided_goes : (response : Response) (request : Request) → Goes (decided setup live response request)

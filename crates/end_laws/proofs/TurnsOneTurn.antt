@@ -48,7 +48,7 @@ use Rattle.controller_core.specs.declared.stored.state.State.TheVariants.{Lookin
 use Rattle.controller_core.specs.stored.State.{Live, is_limited, phase_for}
 use Rattle.controller_messages.specs.Access.{Accessing, answered_with, is_free, is_rejected, is_reply, record_in, unplugged}
 use Rattle.controller_core.specs.stored.Alarms.{is_alarm}
-use Rattle.controller_core.specs.start_up.Answers.{is_addressed, is_answer, is_found, is_ready, is_refused, is_right, is_set_answer}
+use Rattle.controller_core.specs.start_up.Answers.{is_addressed, is_answer, is_found, is_held, is_ready, is_refused, is_right, is_set_answer, is_state_conflict}
 use Rattle.connects.specs.answers.Connect.{Chosen, chosen_by, chosen_of, found_in, is_whole, nothing}
 use Rattle.controller_core.specs.declared.start_up.outcomes.Outcomes.{Outcomes}
 use Rattle.controller_core.specs.declared.start_up.outcomes.Outcomes.TheVariants.{AllWritten, Unreadable}
@@ -133,6 +133,14 @@ module _ (setup : Setup) (live : Live) where
   or_true : (b : Bool) → (b || true) ≡ true
   or_true true = refl
   or_true false = refl
+
+  or_left : (a b : Bool) → a ≡ true → (a || b) ≡ true
+  or_left true b e = refl
+  or_left false b e = absurd (false≢true e)
+
+  or_right : (a b : Bool) → b ≡ true → (a || b) ≡ true
+  or_right a true e = or_true a
+  or_right a false e = absurd (false≢true e)
 
   never : (b c : Bool) → (b && (false && c)) ≡ false
   never true c = refl
@@ -268,7 +276,7 @@ module _ (setup : Setup) (live : Live) where
         (writing_none (writing_from setup.plan (number + 1)) (noted status refused live)))
         (λ ends. by_cases_then setup.plan.release_on_refused_record
         (λ informs. releases_then heard_now why.Refused (Some status) (Some (record { number = refused; status = status }))
-        (asked_going (asks.Write number) stood refl) informs refl)
+        (asked_going (asks.Write number) stood refl) (or_left setup.plan.release_on_refused_record setup.plan.persistent_start informs) refl)
         (λ silent. ends_then heard_now why.Refused (Some status) (Some (record { number = refused; status = status }))
         (asked_going (asks.Write number) stood refl) refl))
 
@@ -297,6 +305,11 @@ module _ (setup : Setup) (live : Live) where
         → Then heard_now (undone setup live response.status request)
     undone_is (asks.Write number) stood right other negative =
         passed_is number (first_of setup.plan number) response.status stood right (ap (λ (b : Bool). b && are_written setup.plan number response.blocks) negative)
+    undone_is asks.Connect stood right other negative =
+        by_cases_then (is_held setup.plan response.status)
+        (λ held. releases_then heard_now why.Refused (Some response.status) live.refused_record (asked_going asks.Connect stood refl)
+        (or_right setup.plan.release_on_refused_record setup.plan.persistent_start (and_parts setup.plan.persistent_start (is_state_conflict response.status) held).0) refl)
+        (λ not. ends_then heard_now why.Refused (Some response.status) live.refused_record (asked_going asks.Connect stood refl) refl)
     undone_is request stood right other negative = ends_then heard_now why.Refused (Some response.status) live.refused_record (asked_going request stood other) refl
 
     handled_is : (request : Request) → live.asked ≡ Some request → is_answer setup request response.header ≡ true → is_release request ≡ false

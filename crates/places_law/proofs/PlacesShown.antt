@@ -63,13 +63,13 @@ use Rattle.controller_core.specs.declared.stored.state.Cause.{Cause}
 use Rattle.controller_core.specs.declared.stored.state.Cause.TheVariants as cause
 use Rattle.controller_core.specs.declared.stored.state.State.{State}
 use Rattle.controller_core.specs.declared.stored.state.State.TheVariants.{Looking, Addressing, Connecting, Writing, Ending, Waiting, Exchanging, Ended}
-use Rattle.controller_core.specs.start_up.Answers.{is_addressed, is_answer, is_found, is_ready, is_refused, is_right, is_set_answer, ready_in}
+use Rattle.controller_core.specs.start_up.Answers.{is_addressed, is_answer, is_found, is_held, is_ready, is_refused, is_right, is_set_answer, ready_in}
 use Rattle.controller_core.specs.start_up.Outcomes.{outcomes_of}
 use Rattle.controller_core.specs.stored.Alarms.{is_alarm}
 use Rattle.controller_core.specs.stored.Cause.{cause_of}
 use Rattle.controller_core.specs.stored.State.{Live, phase_for}
 use Rattle.controller_core.specs.Machine as machine
-use Rattle.controller_core.specs.Machine.{Turn, accessing, addressed, after_turn, after_write, alarmed, answered, asking, asks_next, begun_by, begun_turn, beside, brings, brought, called, can_begin, can_request, come, connected, decided, denied, end_of, exchange_later, first as first_live, flowed, found, given, gone_on, granted, is_again, is_plug_awaited, is_spent, later, noted, noticed, over, past_record, placed, plug_asked, plug_called, plug_finished, plug_passed, plug_passed_by, plug_readied, plug_refused, plug_rejected, plug_replied, plug_responded, plugs_of, quit, rated, readied, refused, refused_beside, refused_by, refused_place, refused_record, rejected, related_by, released, replied, replied_by, request_for, requested, responded, state_of_step, standing, stays, step_from, taken, ticked, turn_due, turn_of, turned, writing, behind_ack, behind_data, acked_under}
+use Rattle.controller_core.specs.Machine.{Turn, accessing, addressed, after_turn, after_write, alarmed, answered, asking, asks_next, begun_by, begun_turn, beside, brings, brought, called, can_begin, can_request, come, connected, decided, denied, end_of, exchange_later, first as first_live, flowed, found, given, gone_on, granted, is_again, is_plug_awaited, is_spent, later, noted, noticed, over, past_record, placed, plug_asked, plug_called, plug_finished, plug_passed, plug_passed_by, plug_readied, plug_refused, plug_rejected, plug_replied, plug_responded, plugs_of, quit, rated, readied, refused, refused_beside, refused_by, refused_connect, refused_place, refused_record, rejected, related_by, released, replied, replied_by, request_for, requested, responded, state_of_step, standing, stays, step_from, taken, ticked, turn_due, turn_of, turned, writing, behind_ack, behind_data, acked_under}
 use Rattle.end_laws.specs.turns.Alarms.{is_priority, report_as}
 use Rattle.both_ends.specs.exchange.Over.{taken_by, taken_of}
 use Rattle.both_ends.proofs.ExchangeLists.{each_behind, holds_if}
@@ -387,6 +387,11 @@ module _ (Clear : Type 0) (setup : Setup) (alarms : List AlarmNotification) wher
   denied_shown : (status : Status) (live : Live) → IsShown Clear setup alarms (denied status live)
   denied_shown status live = over_shown cause.Refused (record live { refusal = Some status })
 
+  refused_connect_shown : (status : Status) (live : Live) → Shown (refused_connect setup live status)
+  refused_connect_shown status live =
+      let next : Live = record live { refusal = Some status } in
+      holds_if Shown (is_held setup.plan status) (released setup cause.Refused next) (stays (denied status live)) (released_shown cause.Refused next) (denied_shown status live)
+
   handled_shown : (live : Live) (response : Response) → IsShown Clear setup alarms live → TellsSo Clear setup (Responds response) → (request : Request) → live.asked ≡ Some request
       → is_answer setup request response.header ≡ true → Shown (decided setup live response request)
   handled_shown live response is tells asks.Identify e answered =
@@ -394,8 +399,8 @@ module _ (Clear : Type 0) (setup : Setup) (alarms : List AlarmNotification) wher
   handled_shown live response is tells asks.Address e answered =
       holds_if Shown (is_done response.status) (stays live) (stays (denied response.status live)) is (denied_shown response.status live)
   handled_shown live response is tells asks.Connect e answered =
-      held_if Shown (is_done response.status) (connected setup live response.blocks (found_in 400 response.blocks nothing)) (stays (denied response.status live))
-      (λ done. connected_shown live response.blocks is (is.before (is.asks e)) (tells answered done) (found_in 400 response.blocks nothing) refl) (denied_shown response.status live)
+      held_if Shown (is_done response.status) (connected setup live response.blocks (found_in 400 response.blocks nothing)) (refused_connect setup live response.status)
+      (λ done. connected_shown live response.blocks is (is.before (is.asks e)) (tells answered done) (found_in 400 response.blocks nothing) refl) (refused_connect_shown response.status live)
   handled_shown live response is tells (asks.Write number) e answered =
       holds_if Shown (is_done response.status) (after_write setup live number (outcomes_of setup.plan number response.blocks))
       (past_record setup number (noted response.status (first_of setup.plan number) live))

@@ -48,3 +48,4 @@ few_octets key.Data = omega arith
 few_octets key.ContinueOnRefusedRecord = omega arith
 few_octets key.ReleaseOnRefusedRecord = omega arith
 few_octets key.ParametersAfterPlug = omega arith
+few_octets key.PersistentStart = omega arith

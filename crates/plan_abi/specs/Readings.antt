@@ -116,6 +116,7 @@ pub record IsBlank (written : WrittenPlan) : Type 0 where
   pub patience : written.patience ≡ 0
   pub waiting_patience : written.waiting_patience ≡ 0
   pub parameters_after_plug : written.parameters_after_plug ≡ 0
+  pub persistent_start : written.persistent_start ≡ 0
 
 -- the octets of a type of station: none if it has more than 28
 abbrev pub type_of : List ℕ → List ℕ
@@ -140,6 +141,7 @@ pub record IsFilled (parts : Parts) (station_type : List ℕ) (written : Written
   pub patience : written.patience ≡ 0
   pub waiting_patience : written.waiting_patience ≡ 0
   pub parameters_after_plug : written.parameters_after_plug ≡ (if parts.parameters_after_plug then 1 else 0)
+  pub persistent_start : written.persistent_start ≡ (if parts.persistent_start then 1 else 0)
 
 -- what was written is the plan of the text's catalogue, with its type of station
 pub record IsWritten (text : List ℕ) (written : WrittenPlan) : Type 0 where

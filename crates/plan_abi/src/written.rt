@@ -41,6 +41,7 @@ pub fn clear(written: &mut WrittenPlan)
     written.patience = 0;
     written.waiting_patience = 0;
     written.parameters_after_plug = 0;
+    written.persistent_start = 0;
 }
 
 fn clear_modules(places: &mut [Module])
@@ -97,6 +98,7 @@ pub fn put(written: &mut WrittenPlan, plan: &Plan, station_type: &[u8])
     written.multiple_write = u32::from(plan.has_multiple_write());
     written.release_on_refused_record = u32::from(plan.release_on_refused_record());
     written.parameters_after_plug = u32::from(plan.has_parameters_after_plug());
+    written.persistent_start = u32::from(plan.persistent_start());
 }
 
 // The octets of a type of station: none if it has more than 28.

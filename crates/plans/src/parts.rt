@@ -66,4 +66,6 @@ pub struct Parts {
     pub multiple_write: bool,
     /// Whether the controller writes the records of a submodule again after it was plugged while data is exchanged.
     pub parameters_after_plug: bool,
+    /// Whether the controller releases a relation that the device holds already: its Connect is refused with State conflict.
+    pub persistent_start: bool,
 }

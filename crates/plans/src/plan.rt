@@ -209,6 +209,14 @@ impl Plan {
         self.parts.parameters_after_plug
     }
 
+    /// Whether the controller sends a Release when its Connect is refused with State conflict: the device holds the relation already, since its
+    /// positive answer was lost. If not, it sends no Release then.
+    pub fn persistent_start(&self) -> bool
+        ensures { result ≡ self.now.persistent_start }
+    {
+        self.parts.persistent_start
+    }
+
     /// The places of the submodules in the frames of a direction.
     pub fn layout(&self, direction: IocrType) -> Layout
         ensures { result ≡ layout_in direction (data_of self.now.real.modules.items) }

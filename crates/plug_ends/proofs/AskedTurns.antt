@@ -63,7 +63,7 @@ use Rattle.controller_core.specs.declared.stored.state.Cause.TheVariants as why
 use Rattle.controller_core.specs.declared.stored.state.RefusedRecord.{RefusedRecord}
 use Rattle.controller_core.specs.declared.stored.state.State.{State}
 use Rattle.controller_core.specs.declared.stored.state.State.TheVariants.{Looking, Addressing, Connecting, Writing, Ending, Waiting, Exchanging, Ended}
-use Rattle.controller_core.specs.start_up.Answers.{is_addressed, is_answer, is_found, is_ready, is_refused, is_right, is_set_answer, ready_in}
+use Rattle.controller_core.specs.start_up.Answers.{is_addressed, is_answer, is_found, is_held, is_ready, is_refused, is_right, is_set_answer, ready_in}
 use Rattle.controller_core.specs.start_up.Outcomes.{outcomes_of}
 use Rattle.controller_core.specs.stored.Alarms.{is_alarm}
 use Rattle.controller_core.specs.stored.Cause.{cause_of}
@@ -274,6 +274,8 @@ module _ (setup : Setup) (live : Live) (alarms : List AlarmNotification) (Fine :
 
   undone_goes : (status : Code) (request : Request) → Goes alarms (undone setup live status request)
   undone_goes status (asks.Write number) = passed_goes number (first_of setup.plan number) status
+  undone_goes status asks.Connect =
+      let next : Live = record live { refusal = Some status } in either (is_held setup.plan status) (releases why.Refused next refl) (ends why.Refused next [] refl tt)
   undone_goes status request = ends why.Refused (record live { refusal = Some status }) [] refl tt
 
   decided_goes : (response : Response) (request : Request) → live.asked ≡ Some request → Goes alarms (decided setup live response request)

@@ -53,7 +53,7 @@ use Rattle.controller_messages.specs.Heard.{Answers as Comes_back}
 use Rattle.rpc_core.specs.declared.header.CallHeader.{CallHeader}
 use Rattle.controller_core.specs.declared.stored.event.Event.{Event}
 use Rattle.controller_core.specs.declared.stored.event.Event.TheVariants as event
-use Rattle.controller_core.specs.start_up.Answers.{is_call}
+use Rattle.controller_core.specs.start_up.Answers.{is_call, is_held}
 use Rattle.controller_messages.specs.PlugRequests.{is_plug_answer, is_plug_ready, plug_answer, plug_ready_in}
 use Rattle.controller_messages.specs.RecordRequests.{most_record_octets}
 use Rattle.controller_messages.specs.Requests.{first_of, sequence_of}
@@ -340,6 +340,8 @@ module _ (Said : Sent → Type 0) (setup : Setup) (heard : ToController) (live :
 
     undone_turns : (status : Code) (request : Request) → Does (undone setup live status request)
     undone_turns status (asks.Write number) = passed_turns number (first_of setup.plan number) status
+    undone_turns status asks.Connect =
+        let next : Live = record live { refusal = Some status } in either (is_held setup.plan status) (releases why.Refused next) (ends why.Refused next [])
     undone_turns status request = ends why.Refused (record live { refusal = Some status }) []
 
     decided_turns : (response : Response) (request : Request) → live.asked ≡ Some request → Does (decided setup live response request)

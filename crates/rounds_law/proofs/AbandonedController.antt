@@ -29,24 +29,25 @@ use Rattle.controller_messages.specs.Sent.{Requests, Sent, bytes_of}
 use Rattle.controller_core.specs.declared.stored.state.Cause.{Cause}
 use Rattle.controller_core.specs.declared.stored.state.Cause.TheVariants.{NoProgress, Refused}
 use Rattle.controller_core.specs.declared.stored.state.State.{State as Phases}
+use Rattle.controller_core.specs.declared.stored.state.State.TheVariants.{Connecting}
 use Rattle.controller_core.specs.declared.stored.event.Event.TheVariants.{Frame, Tick}
 use Rattle.controller_core.specs.stored.State.{Controlling, Live, is_limited, left_in, phase_for}
-use Rattle.controller_core.specs.start_up.Answers.{is_answer}
+use Rattle.controller_core.specs.start_up.Answers.{is_answer, is_held, is_state_conflict}
 use Rattle.controller_core.specs.start_up.Requests.{next_sequence}
-use Rattle.controller_core.specs.Machine.{Stepped, Turn, accesses_by, accesses_of, after_turn, brought, can_begin, decided, done as done_turn, exchange_later}
+use Rattle.controller_core.specs.Machine.{Stepped, Turn, accesses_by, accesses_of, after_turn, brought, can_begin, decided, denied, done as done_turn, exchange_later}
 use Rattle.controller_core.specs.Machine.{flow_later, flowed, gone_on, is_again, is_exchanging, later, noted, outputs_of, over, past_record, pending_by}
 use Rattle.controller_core.specs.Machine.{plugs_by}
-use Rattle.controller_core.specs.Machine.{quit, refused_record, released, requests_of, responded, stays, step_of, stepped, ticked, turn_due, turn_of, turned}
+use Rattle.controller_core.specs.Machine.{quit, refused_connect, refused_record, released, requests_of, responded, stays, step_of, stepped, ticked, turn_due, turn_of, turned}
 use Rattle.controller_core.specs.Machine.{undone, where_due, writing}
 use Rattle.end_laws.specs.hearing.Hearing.{mine_reported}
 use Rattle.end_laws.specs.hearing.Stations.{IsAddress, IsCaller, IsDevice, IsSetup}
 use Rattle.both_ends.specs.startup.answer.Answer.{caller_of}
-use Rattle.rounds_law.specs.Path.{AllAnswered, controller_step, request_to}
+use Rattle.rounds_law.specs.Path.{AllAnswered, Asks, controller_step, request_to}
 use Rattle.rounds_law.specs.Again.{HasEnded, IsDenial}
 use Rattle.rounds_law.specs.Abandoned.{Awaited, EndsFor, IsInPlan, Expects, IsReleasing, Readiness, Releases, Response, StillExpects, WritesNext, asked_for}
 use Rattle.rounds_law.specs.Abandoned.{last_call, phase_at, repeated}
 use Rattle.rounds_law.specs.Repeating.{completes, counts_on}
-use Rattle.rounds_law.proofs.Choices.{where_not, where_so}
+use Rattle.rounds_law.proofs.Choices.{both_true, where_not, where_so}
 use Rattle.rounds_law.proofs.ControllerCallingAsks.{count_few, step_by, step_is}
 use Rattle.rounds_law.proofs.ControllerCallingResponses.{is_its_answer, is_reported, unexchanging}
 use Rattle.rounds_law.proofs.ControllerPassingParts.{unbegun_heard}
@@ -151,6 +152,62 @@ module _ (setup : Setup) (identity : Identity) (good : IsSetup setup) (device : 
           );
         },
       )
+
+  -- ---- the response to the Connect
+
+  -- After it no turn of a place can begin.
+  connect_none : (status : Status) (live : Live) → can_begin (refused_connect setup live status).live ≡ false
+  connect_none status live = by_held (is_held setup.plan status)
+    where
+      by_held : (held : Bool)
+          → can_begin (if held then released setup Refused (record live { refusal = Some status }) else stays (denied status live)).live ≡ false
+      by_held true = refl
+      by_held false = refl
+
+  connect_step : (controller : Controlling) (spare : ℕ) (octets : List ℕ) → Asks setup identity.mac Connecting asks.Connect None spare controller
+      → (denial : IsDenial setup identity asks.Connect octets)
+      → controller_step controller octets ≡ step_by setup (refused_connect setup controller.live denial.status)
+  connect_step controller spare octets asking denial =
+      let live = controller.live in
+      let next = refused_connect setup live denial.status in
+      step_is setup controller octets next asking.of_setup
+      (response_turn asks.Connect live octets denial asking.asked (is_its_answer setup 0) next
+      (where_not (is_done denial.status) (done_turn setup live [] asks.Connect) next denial.negative)
+      (connect_none denial.status live))
+
+  -- with a Release
+  connect_releases : (status : Status) (live : Live) → live.device ≡ identity.mac → live.asked ≡ Some asks.Connect
+      → Releases setup identity Refused 0 (step_by setup (released setup Refused (record live { refusal = Some status })))
+  connect_releases status live to asked =
+      releases_by setup identity Refused 0 (record live { refusal = Some status }) to 1
+      (ap (λ (a : Option Request). next_sequence setup.plan live.access.calls a) asked) (omega arith) (omega arith)
+
+  connect_ends : (status : Status) (live : Live) → live.device ≡ identity.mac → live.asked ≡ Some asks.Connect
+      → EndsFor setup identity Refused 0 (step_by setup (refused_connect setup live status))
+  connect_ends status live to asked = by_held (is_held setup.plan status)
+    where
+      by_held : (held : Bool)
+          → EndsFor setup identity Refused 0 (step_by setup (if held then released setup Refused (record live { refusal = Some status }) else stays (denied status live)))
+      by_held true = inr (connect_releases status live to asked)
+      by_held false = inl (refl, ends_by setup Refused (record live { refusal = Some status }))
+
+  pub connect_denied : (controller : Controlling) (spare : ℕ) (octets : List ℕ) → Asks setup identity.mac Connecting asks.Connect None spare controller
+      → IsDenial setup identity asks.Connect octets → EndsFor setup identity Refused 0 (controller_step controller octets)
+  connect_denied controller spare octets asking denial =
+      subst (λ (s : Stepped). EndsFor setup identity Refused 0 s) (sym (connect_step controller spare octets asking denial))
+      (connect_ends denial.status controller.live asking.of_device asking.asked)
+
+  pub connect_informs : (controller : Controlling) (spare : ℕ) (octets : List ℕ) → Asks setup identity.mac Connecting asks.Connect None spare controller
+      → (denial : IsDenial setup identity asks.Connect octets) → setup.plan.persistent_start ≡ true → is_state_conflict denial.status ≡ true
+      → Releases setup identity Refused 0 (controller_step controller octets)
+  connect_informs controller spare octets asking denial keyed conflicts =
+      let live = controller.live in
+      let held = both_true setup.plan.persistent_start (is_state_conflict denial.status) keyed conflicts in
+      let informs = released setup Refused (record live { refusal = Some denial.status }) in
+      subst (λ (s : Stepped). Releases setup identity Refused 0 s)
+      (sym (connect_step controller spare octets asking denial
+      ∙ ap (step_by setup) (where_so (is_held setup.plan denial.status) informs (stays (denied denial.status live)) held)))
+      (connect_releases denial.status live asking.of_device asking.asked)
 
   -- ---- the response to a Write or to PrmEnd
 

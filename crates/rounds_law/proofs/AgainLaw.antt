@@ -34,7 +34,7 @@ use Rattle.rounds_law.specs.Path.{AsksNothing, Asks, AsksNext, FindsIt, IsAddres
 use Rattle.rounds_law.specs.Path.{IsSized, controller_step, device_step, found_frame, request_to}
 use Rattle.rounds_law.specs.Stages.{IsAddressing, IsConnecting, IsLooking, Leads}
 use Rattle.rounds_law.specs.Start.{CanBeAddressed, CanStart, IsOfPlan, start_up_limit}
-use Rattle.rounds_law.specs.Again.{AreStarts, HasEarlier, HasEnded, HasLeft, HasWaited, IsAlone, IsDeserted, IsEnd, IsRefusal, IsRestart, LeadsBack, Plant}
+use Rattle.rounds_law.specs.Again.{AreStarts, HasEarlier, HasEnded, HasLeft, HasWaited, IsAlone, IsDeserted, IsEnd, IsOtherRefusal, IsRestart, LeadsBack, Plant}
 use Rattle.rounds_law.specs.Again.{PlantRound, after_round, begun_with, made, started, unset_frame}
 use Rattle.rounds_law.proofs.CompositionEnds.{Passed, addressed_by, asked_after, can_by, ignore, named_by, passed, searching_first}
 use Rattle.rounds_law.proofs.CompositionLaws.{Laws}
@@ -86,7 +86,7 @@ pub record AgainLaws (setup : Setup) (identity : Identity) : Type 0 where
       → AreSendable identity (device_step outcomes station live (request_to setup identity wants.Connect)).sent
       → (octets : List ℕ)
       × ((device_step outcomes station live (request_to setup identity wants.Connect)).frames ≡ octets ∷ [])
-      × IsRefusal setup identity octets
+      × IsOtherRefusal setup identity octets
       × ((device_step outcomes station live (request_to setup identity wants.Connect)).live.values ≡ live.values)
       × ((device_step outcomes station live (request_to setup identity wants.Connect)).live.rest.link ≡ live.rest.link)
       × ((activity : List ℕ) → (activity ≡ setup.activity → ⊥) → kept_of activity live.rest.calls ≡ None
@@ -115,7 +115,7 @@ pub record AgainLaws (setup : Setup) (identity : Identity) : Type 0 where
 
 pub record EndedLaws (setup : Setup) (identity : Identity) : Type 0 where
   pub refused : (controller : Controlling) (spare : ℕ) (octets : List ℕ) → Asks setup identity.mac Connecting wants.Connect None spare controller
-      → IsRefusal setup identity octets
+      → IsOtherRefusal setup identity octets
       → ((controller_step controller octets).frames ≡ []) × HasEnded setup Refused (controller_step controller octets).controller
   pub unset : (controller : Controlling) (spare : ℕ) → Asks setup identity.mac Addressing wants.Address None spare controller
       → ((controller_step controller (unset_frame setup identity)).frames ≡ [])

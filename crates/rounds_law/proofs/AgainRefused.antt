@@ -26,15 +26,15 @@ use Rattle.controller_core.specs.declared.stored.state.Cause.{Cause}
 use Rattle.controller_core.specs.declared.stored.state.Cause.TheVariants as cause
 use Rattle.controller_core.specs.declared.stored.event.Event.TheVariants.{Frame, Tick}
 use Rattle.controller_core.specs.stored.State.{Controlling, Live, is_limited}
-use Rattle.controller_core.specs.start_up.Answers.{is_answer}
+use Rattle.controller_core.specs.start_up.Answers.{is_answer, is_held, is_state_conflict}
 use Rattle.controller_core.specs.Machine.{Stepped, after_turn, answered, can_begin, decided, denied, flowed, gone_on, brought, exchange_later, is_again}
-use Rattle.controller_core.specs.Machine.{later, over, quit, requests_of, responded, where_due, step_of, stepped, stays, turn_due, turn_of, turned, undone}
+use Rattle.controller_core.specs.Machine.{later, over, quit, released, requests_of, responded, where_due, step_of, stepped, stays, turn_due, turn_of, turned, undone}
 use Rattle.end_laws.specs.hearing.Hearing.{mine_hears, mine_reported}
 use Rattle.end_laws.specs.hearing.Stations.{IsAddress, IsCaller, IsDevice, IsSetup}
 use Rattle.both_ends.specs.startup.answer.Answer.{caller_of}
 use Rattle.rounds_law.specs.Path.{Asks, controller_step}
-use Rattle.rounds_law.specs.Again.{HasEnded, IsRefusal, unset_frame}
-use Rattle.rounds_law.proofs.Choices.{where_not, where_so}
+use Rattle.rounds_law.specs.Again.{HasEnded, IsOtherRefusal, IsRefusal, unset_frame}
+use Rattle.rounds_law.proofs.Choices.{and_false, where_not, where_so}
 use Rattle.rounds_law.proofs.ControllerCallingResponses.{is_its_answer, is_reported}
 use Rattle.rounds_law.proofs.PlaceTurns.{undue, unfollowed, without_relation}
 use Rattle.rounds_law.proofs.SearchingController.{mine_so}
@@ -77,26 +77,29 @@ module _ (setup : Setup) (identity : Identity) (good : IsSetup setup) (device : 
       (answer_to (call_for setup asks.Connect) refusal.status []) device caller_sized good.station refusal.fits
       ∙ is_reported setup.plan.controller (Responds (answer_to (call_for setup asks.Connect) refusal.status [])))
 
-  refused_turn : (live : Live) (octets : List ℕ) (refusal : IsRefusal setup identity octets) → live.asked ≡ Some asks.Connect
+  refused_turn : (live : Live) (octets : List ℕ) (refusal : IsRefusal setup identity octets) → is_state_conflict refusal.status ≡ false
+      → live.asked ≡ Some asks.Connect
       → turn_of setup live (Frame (record { items = octets })) ≡ stays (denied refusal.status live)
-  refused_turn live octets refusal asked =
+  refused_turn live octets refusal other asked =
       let response = answer_to (call_for setup asks.Connect) refusal.status [] in
       ap (λ (h : Heard). turned setup live h) (refusal_heard octets refusal)
       ∙ (ap (λ (a : Option Request). after_turn setup (can_begin live) (responded setup live response a)) asked
       ∙ (ap (after_turn setup (can_begin live))
       (where_so (is_answer setup asks.Connect response.header) (decided setup live response asks.Connect) (stays live) (is_its_answer setup 0)
-      ∙ where_not (is_done refusal.status) _ (undone setup live refusal.status asks.Connect) refusal.negative)
+      ∙ (where_not (is_done refusal.status) _ (undone setup live refusal.status asks.Connect) refusal.negative
+      ∙ where_not (is_held setup.plan refusal.status) (released setup cause.Refused (record live { refusal = Some refusal.status })) (stays (denied refusal.status live))
+      (ap (λ (b : Bool). setup.plan.persistent_start && b) other ∙ and_false setup.plan.persistent_start)))
       ∙ unfollowed setup (can_begin live) (stays (denied refusal.status live)) refl))
 
   pub refused : (controller : Controlling) (spare : ℕ) (octets : List ℕ) → Asks setup identity.mac Connecting asks.Connect None spare controller
-      → IsRefusal setup identity octets
+      → IsOtherRefusal setup identity octets
       → ((controller_step controller octets).frames ≡ []) × HasEnded setup cause.Refused (controller_step controller octets).controller
   unfolding step_of
   refused controller spare octets asking refusal =
       let step_is = ap (λ (s : Setup). stepped controller (turn_of s controller.live (Frame (record { items = octets })))) asking.of_setup
-      ∙ ap (stepped controller) (refused_turn controller.live octets refusal asking.asked) in (
+      ∙ ap (stepped controller) (refused_turn controller.live octets refusal.0 refusal.1 asking.asked) in (
         ap (λ (s : Stepped). s.frames) step_is,
-        over_ended setup controller (record controller.live { refusal = Some refusal.status })
+        over_ended setup controller (record controller.live { refusal = Some refusal.0.status })
             (controller_step controller octets) asking.of_setup step_is,
       )
 

@@ -14,7 +14,6 @@ use Rattle.network_world.specs.World.{is_ended}
 use Rattle.rounds_law.specs.Again.{Plant, begun_with}
 use Rattle.rounds_law.specs.Anywhere.{IsLate, LeadsAnywhereBack, remains}
 use Rattle.rounds_law.specs.AnywhereAgain.{StartLaws}
-use Rattle.rounds_law.specs.AnywhereFrames.{AreOwn, IsRelease}
 use Rattle.rounds_law.specs.Rounds.{Net}
 use Rattle.rounds_law.specs.Start.{CanStart, start_up_limit}
 use Rattle.rounds_law.proofs.AgainLaw.{goes_on_with, sum, sum_is}
@@ -96,7 +95,7 @@ module _ {F : Type 0} {S : ℕ} (as_flash : Flash F S) (identity : Identity) (si
     past_ended before setup next rest pairs laws can later_pairs fewer net over = record {
       nets = over.nets;
       ended = over.ended;
-      releases = subst (AreOwn setup IsRelease) (sym over.nothing) tt;
+      releases = over.releases;
       early = over.early;
       time = by_time over.time;
     }

@@ -1,5 +1,5 @@
 -- The second round of a start at a device that still has a relation: it refuses the request, and the controller has ended.
-use Rattle.std.proofs.Common.{◌≡◌, ◌⊎◌, inl, inr, ◌≤◌, ℕ, suc, true, false, List, [], ◌∷◌, ◌++◌, None, Some, refl, sym, ap, subst, ◌∙◌, arith}
+use Rattle.std.proofs.Common.{◌≡◌, ◌⊎◌, inl, inr, ◌≤◌, ◌<◌, ℕ, suc, true, false, List, [], ◌∷◌, ◌++◌, None, Some, refl, sym, ap, subst, ◌∙◌, arith}
 use Rattle.std.specs.List.{AllByRecursion}
 use Rattle.flash_model.specs.declared.flash.Flash.{Ghosts as Flash}
 use Rattle.pn_values.specs.declared.identity.Identity.{Identity}
@@ -18,9 +18,11 @@ use Rattle.controller_core.specs.stored.State.{Controlling}
 use Rattle.controller_core.specs.Machine.{Stepped, step_of}
 use Rattle.network_world.specs.World.{is_ended}
 use Rattle.end_laws.specs.hearing.Stations.{IsDevice}
-use Rattle.rounds_law.specs.Again.{HasEnded, unset_frame}
+use Rattle.rounds_law.specs.Abandoned.{EndsFor}
+use Rattle.rounds_law.specs.Again.{unset_frame}
 use Rattle.rounds_law.specs.Anywhere.{IsAnyDevice, remains}
 use Rattle.rounds_law.specs.AnywhereAgain.{StartLaws}
+use Rattle.rounds_law.specs.AnywhereFrames.{AreOwn, IsRelease}
 use Rattle.rounds_law.specs.Path.{Asks, IsAddressed, controller_step, device_step, request_to}
 use Rattle.rounds_law.specs.Rounds.{Goes, HearsAll, Net, Round}
 use Rattle.rounds_law.specs.Start.{CanStart}
@@ -29,6 +31,7 @@ use Rattle.rounds_law.proofs.AnywhereBesideLooks.{AsksBeside, IsAskingBeside}
 use Rattle.rounds_law.proofs.AnywhereAsked.{none_repeats}
 use Rattle.rounds_law.proofs.AnywhereBesideRound.{AnyForAll, Pair, UnderWayForAll, unit_nearer}
 use Rattle.rounds_law.proofs.AnywhereBesideUnit.{unit_passed}
+use Rattle.rounds_law.proofs.AnywhereControllerSent.{request_said}
 use Rattle.rounds_law.proofs.AnywhereRounds.{any_device}
 use Rattle.rounds_law.proofs.CompositionEnds.{Passed, passed}
 use Rattle.rounds_law.proofs.CompositionLists.{arrive_first, arrives_as, hears_one, never}
@@ -70,11 +73,11 @@ module _ {F : Type 0} {S : ℕ} (as_flash : Flash F S) (identity : Identity) (si
     (pairs : AllByRecursion (Pair as_flash identity silence before) (setup ∷ next ∷ rest)) (laws : StartLaws as_flash identity setup)
     (can : CanStart setup identity)
     (later_pairs : AllByRecursion (Pair as_flash identity silence setup) (next ∷ rest)) where
-  -- The controller has ended, and nothing of it is under way. The relation is over, or has at most this many units.
+  -- The controller has ended, and its Releases at most are under way. The relation is over, or has at most this many units.
   pub record IsEndedBeside (left : ℕ) (net : Net F) : Type 0 where
     pub nets : UnderWayForAll as_flash identity silence setup (next ∷ rest) net
     pub ended : is_ended net.controller.live.phase ≡ true
-    pub nothing : net.to_device ≡ []
+    pub releases : AreOwn setup IsRelease net.to_device
     pub early : EarlyForAll (next ∷ rest) net.to_controller
     pub time : (net.device.live.rest.link ≡ None) ⊎ (suc (remains net.device.live.rest.link) ≤ left)
 
@@ -82,12 +85,26 @@ module _ {F : Type 0} {S : ℕ} (as_flash : Flash F S) (identity : Identity) (si
   Asking left phase request net = IsAskingBeside as_flash identity silence said before setup (next ∷ rest) pairs laws can left phase request net
 
   -- The controller after the unit of the round in which it was refused.
-  ended_after : (heard : Stepped) (after : Net F) → heard.frames ≡ [] → HasEnded setup Refused heard.controller → Passed heard after
-      → HasEnded setup Refused after.controller × (after.to_device ≡ [])
-  ended_after heard after none ended u =
+  abbrev HasQuit : Net F → Type 0
+  HasQuit net = (is_ended net.controller.live.phase ≡ true) × AreOwn setup IsRelease net.to_device
+
+  release_own : (sequence : ℕ) → sequence < 4294967296 → AreOwn setup IsRelease (request_to setup identity (wants.Release sequence) ∷ [])
+  release_own sequence few = (request_said setup IsRelease identity.mac (wants.Release sequence) later_pairs.0.long.of_device few tt, tt)
+
+  ended_after : (heard : Stepped) (after : Net F) → EndsFor setup identity Refused 0 heard → Passed heard after → HasQuit after
+  ended_after heard after (inl (none, ended)) u =
       let law = laws.controller_ended heard.controller ended in (
-        subst (λ (c : Controlling). HasEnded setup Refused c) (sym u.controller) law.1,
-        u.to_device ∙ (ap (λ (fs : List (List ℕ)). fs ++ (step_of heard.controller Tick).frames) none ∙ law.0),
+        ap (λ (c : Controlling). is_ended c.live.phase) u.controller ∙ ap is_ended law.1.in_phase,
+        subst (AreOwn setup IsRelease)
+            (sym (u.to_device ∙ (ap (λ (fs : List (List ℕ)). fs ++ (step_of heard.controller Tick).frames) none ∙ law.0))) tt,
+      )
+  ended_after heard after (inr released) u =
+      let law = laws.controller_releasing released.sequence 0 heard.controller released.releasing in
+      let release = request_to setup identity (wants.Release released.sequence) ∷ [] in (
+        ap (λ (c : Controlling). is_ended c.live.phase) u.controller ∙ ap is_ended law.1.in_phase,
+        subst (AreOwn setup IsRelease)
+            (sym (u.to_device ∙ (ap (λ (fs : List (List ℕ)). fs ++ (step_of heard.controller Tick).frames) released.frames
+            ∙ ap (λ (fs : List (List ℕ)). release ++ fs) law.0))) (release_own released.sequence released.numbered),
       )
 
   module _ (fewer : ℕ) (phase : Phases) (request : Request) (net after : Net F) (at : Asking (suc fewer) phase request net)
@@ -107,12 +124,11 @@ module _ {F : Type 0} {S : ℕ} (as_flash : Flash F S) (identity : Identity) (si
         by_time (inl none) = absurd (gone (sym none ∙ has))
         by_time (inr few) = subst (λ (n : ℕ). n ≤ fewer) (sym (ap remains same)) (omega (arith, few))
 
-    ended_with : round.device.live.rest.link ≡ net.device.live.rest.link → HasEnded setup Refused after.controller × (after.to_device ≡ [])
-        → IsEndedBeside fewer after
+    ended_with : round.device.live.rest.link ≡ net.device.live.rest.link → HasQuit after → IsEndedBeside fewer after
     ended_with same over = record {
       nets = all_kept as_flash identity silence setup (next ∷ rest) later_pairs net after at.nets round;
-      ended = ap is_ended over.0.in_phase;
-      nothing = over.1;
+      ended = over.0;
+      releases = over.1;
       early = all_passed as_flash identity silence said setup (next ∷ rest) later_pairs.0.long.of_device round.device after.to_controller after.device
           round.unit (all_heard as_flash identity silence setup (next ∷ rest) later_pairs net round.answers round.device round.arrives at.nets);
       time = unit_nearer as_flash identity silence setup next later_pairs.0 fewer round.device after.device after.to_controller round.unit any_here
@@ -127,14 +143,14 @@ module _ {F : Type 0} {S : ℕ} (as_flash : Flash F S) (identity : Identity) (si
     -- It is refused with this answer.
     refused_with : (octets : List ℕ) → IsEarly phase → round.answers ≡ octets ∷ [] → round.device.live.rest.link ≡ net.device.live.rest.link
         → ((controller : Controlling) → Asks setup identity.mac phase request None at.spare controller
-        → ((controller_step controller octets).frames ≡ []) × HasEnded setup Refused (controller_step controller octets).controller)
+        → EndsFor setup identity Refused 0 (controller_step controller octets))
         → IsEndedBeside fewer after
     refused_with octets early answered same ends =
         let kept = ignore_early setup (λ (c : Controlling). Asks setup identity.mac phase request None at.spare c) (λ c is. asks_early c is early)
         net.controller net.to_controller (octets ∷ []) at.early at.asks in
         let step = controller_step kept.between octets in
         let ended = ends kept.between kept.is in
-        ended_with same (ended_after step after ended.0 ended.1
+        ended_with same (ended_after step after ended
         (passed as_flash net after round (octets ∷ []) step answered (kept.goes_on ∙ hears_one kept.between octets)))
 
   connect_refused : (fewer : ℕ) (net after : Net F) (at : Asking (suc fewer) Connecting wants.Connect net) → IsAddressed setup net.device.live
@@ -165,7 +181,7 @@ module _ {F : Type 0} {S : ℕ} (as_flash : Flash F S) (identity : Identity) (si
       net.device address [] round.answers round.device refl (λ sendable. law.1) tt
       (arrives_as as_flash net after round (address ∷ []) at.under_way) in
       refused_with fewer Addressing wants.Address net after at link has round (unset_frame setup identity) tt (all.0.sent ∙ law.0)
-      (ap (λ (live : Live). live.rest.link) all.0.is) (λ controller asks. laws.controller_unset controller at.spare asks)
+      (ap (λ (live : Live). live.rest.link) all.0.is) (λ controller asks. inl (laws.controller_unset controller at.spare asks))
 
   -- After the second round the controller has ended.
   pub ends_beside : (fewer : ℕ) (net after : Net F) → AsksBeside as_flash identity silence said before setup (next ∷ rest) pairs laws can (suc fewer) net

@@ -65,7 +65,7 @@ use Rattle.controller_core.specs.declared.stored.state.Cause.{Cause}
 use Rattle.controller_core.specs.declared.stored.state.Cause.TheVariants as why
 use Rattle.controller_core.specs.declared.stored.state.State.{State}
 use Rattle.controller_core.specs.declared.stored.state.State.TheVariants.{Looking, Addressing, Connecting, Writing, Ending, Waiting, Exchanging, Ended}
-use Rattle.controller_core.specs.start_up.Answers.{is_addressed, is_answer, is_found, is_ready, is_refused, is_right, is_set_answer, ready_in}
+use Rattle.controller_core.specs.start_up.Answers.{is_addressed, is_answer, is_found, is_held, is_ready, is_refused, is_right, is_set_answer, ready_in}
 use Rattle.controller_core.specs.start_up.Outcomes.{outcomes_of}
 use Rattle.controller_core.specs.stored.Alarms.{ack_of, is_alarm, kept_alarm}
 use Rattle.controller_core.specs.stored.Cause.{cause_of}
@@ -282,6 +282,8 @@ module _ (setup : Setup) where
 
     undone_good : (status : Code) (request : Request) → Good (undone setup live status request)
     undone_good status (asks.Write number) = passed_good number (first_of setup.plan number) status
+    undone_good status asks.Connect =
+        let next : Live = record live { refusal = Some status } in either (is_held setup.plan status) _ _ (released_good why.Refused next) (over_good why.Refused next [])
     undone_good status request = over_good why.Refused (record live { refusal = Some status }) []
 
     decided_good : (response : Response) (request : Request) → Good (decided setup live response request)

@@ -25,6 +25,7 @@ use Rattle.controller_messages.specs.Requests.{address_asked, call_for}
 use Rattle.controller_core.specs.declared.stored.state.State.TheVariants.{Ended, Exchanging}
 use Rattle.controller_core.specs.declared.stored.state.Cause.{Cause}
 use Rattle.controller_core.specs.declared.stored.state.Cause.TheVariants.{DataHold}
+use Rattle.controller_core.specs.start_up.Answers.{is_state_conflict}
 use Rattle.controller_core.specs.stored.State.{Controlling}
 use Rattle.controller_core.specs.Machine.{Stepped, first as first_live, opening_of}
 use Rattle.network_world.specs.World.{is_ended}
@@ -74,6 +75,10 @@ pub record IsDenial (setup : Setup) (identity : Identity) (request : Request) (o
 -- A negative response to the Connect.
 abbrev pub IsRefusal : Setup → Identity → List ℕ → Type 0
 IsRefusal setup identity octets = IsDenial setup identity asks.Connect octets
+
+-- One that does not say that the device holds this relation already.
+abbrev pub IsOtherRefusal : Setup → Identity → List ℕ → Type 0
+IsOtherRefusal setup identity octets = (refusal : IsRefusal setup identity octets) × (is_state_conflict refusal.status ≡ false)
 
 -- The answer to the Set of the IP suite while a relation exists: its BlockError says that the Set is not possible in operation.
 abbrev pub unset_frame : Setup → Identity → List ℕ

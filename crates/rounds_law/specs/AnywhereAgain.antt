@@ -1,5 +1,5 @@
 -- A controller that is started again while its device may still have a relation, as often as is needed.
-use Rattle.std.specs.Prelude.{◌≡◌, ◌+◌, ◌++◌, ℕ, suc, true, false, List, [], ◌∷◌, Some, None, Ok}
+use Rattle.std.specs.Prelude.{◌≡◌, ◌+◌, ◌++◌, ℕ, suc, true, false, List, [], ◌∷◌, if◌then◌else◌, Some, None, Ok}
 use Rattle.std.specs.List.{AllByRecursion}
 use Rattle.flash_model.specs.declared.flash.Flash.{Ghosts as Flash}
 use Rattle.pn_values.specs.IpSuite.{is_suite, is_zero}
@@ -31,11 +31,13 @@ use Rattle.both_ends.specs.startup.Played.{ArePlaced, CanMeet}
 use Rattle.both_ends.specs.startup.answer.Answer.{AcceptsInterval}
 use Rattle.both_ends.specs.startup.request.Request.{no_rows, request_for}
 use Rattle.network_world.specs.World.{is_ended}
+use Rattle.rounds_law.specs.Abandoned.{EndsFor, IsReleasing}
 use Rattle.rounds_law.specs.Again.{AreStarts, HasEnded, IsRefusal, Plant, unset_frame}
 use Rattle.rounds_law.specs.Anywhere.{ChoosesWell, IsAnyController, IsAnyDevice, IsLate, ahead_limit, parting_limit}
 use Rattle.rounds_law.specs.AnywhereFrames.{AreOwn, IsAnything}
 use Rattle.rounds_law.specs.Connects.{AreWhole}
 use Rattle.rounds_law.specs.Path.{Asks, FindsIt, IsAddressed, IsNamed, IsSearching, IsSized, controller_step, device_step, found_frame, request_to}
+use Rattle.rounds_law.specs.Repeating.{completes, counts_on}
 use Rattle.rounds_law.specs.Rounds.{Net}
 use Rattle.rounds_law.specs.Stages.{IsAddressing, IsConnecting, Leads}
 use Rattle.rounds_law.specs.Start.{CanStart, IsPatient, start_up_limit}
@@ -106,13 +108,15 @@ pub record StartLaws {F : Type 0} {S : ℕ} (as_flash : Flash F S) (identity : I
   pub device_refused : RefusesConnect setup identity
   pub device_unset : RefusesAddress setup identity
   pub controller_refused : (controller : Controlling) (spare : ℕ) (octets : List ℕ) → Asks setup identity.mac Connecting asks.Connect None spare controller
-      → IsRefusal setup identity octets
-      → ((controller_step controller octets).frames ≡ []) × HasEnded setup Refused (controller_step controller octets).controller
+      → IsRefusal setup identity octets → EndsFor setup identity Refused 0 (controller_step controller octets)
   pub controller_unset : (controller : Controlling) (spare : ℕ) → Asks setup identity.mac Addressing asks.Address None spare controller
       → ((controller_step controller (unset_frame setup identity)).frames ≡ [])
       × HasEnded setup Refused (controller_step controller (unset_frame setup identity)).controller
   pub controller_ended : (controller : Controlling) → HasEnded setup Refused controller
       → ((step_of controller Tick).frames ≡ []) × HasEnded setup Refused (step_of controller Tick).controller
+  pub controller_releasing : (sequence waited : ℕ) (controller : Controlling) → IsReleasing setup identity.mac Refused sequence waited controller
+      → ((step_of controller Tick).frames ≡ (if completes waited then request_to setup identity (asks.Release sequence) ∷ [] else []))
+      × IsReleasing setup identity.mac Refused sequence (counts_on waited) (step_of controller Tick).controller
   pub addressing : CanStart setup identity → (net : Net F) → IsAddressing setup identity net → Leads as_flash (write_count setup.plan + 4) net
   pub connecting : CanStart setup identity → (net : Net F) → IsConnecting setup identity net → Leads as_flash (write_count setup.plan + 3) net
 

@@ -12,7 +12,7 @@ use Rattle.pn_values.specs.declared.real.RealSubmodule.{RealSubmodule}
 use Rattle.script_lines.specs.Numbers.{number_of, repeated}
 use Rattle.hex.specs.declared.error.FromHexError.{FromHexError}
 use Rattle.script_lines.specs.declared.command.Choice.{Choice}
-use Rattle.script_lines.specs.declared.command.Choice.TheVariants.{InputsBad, ReadyLater, Interval, AnswersRecords}
+use Rattle.script_lines.specs.declared.command.Choice.TheVariants.{InputsBad, ReadyLater, Interval, AnswersRecords, ReadsNotKept, OwnFirst}
 use Rattle.script_lines.specs.declared.command.Words.{Words}
 use Rattle.script_lines.specs.declared.command.Words.TheVariants.{One, Two, Three, Four, Five, Six, More}
 
@@ -183,7 +183,9 @@ choice_of name value =
     if is_text name (codes "inputs-bad") then option_map InputsBad (one_of (codes "on") (codes "off") value)
     else (if is_text name (codes "ready") then option_map ReadyLater (one_of (codes "on") (codes "off") value)
     else (if is_text name (codes "interval") then option_map Interval (units_of (number_of 65536 value))
-    else (if is_text name (codes "records") then option_map AnswersRecords (one_of (codes "on") (codes "off") value) else None)))
+    else (if is_text name (codes "records") then option_map AnswersRecords (one_of (codes "on") (codes "off") value)
+    else (if is_text name (codes "reads-not-kept") then option_map ReadsNotKept (one_of (codes "on") (codes "off") value)
+    else (if is_text name (codes "own-first") then option_map OwnFirst (one_of (codes "on") (codes "off") value) else None)))))
 
 -- A command for a slot and subslot, if both are valid.
 abbrev pub at_place : (ℕ → ℕ → Command) → Option ℕ → Option ℕ → Option Command

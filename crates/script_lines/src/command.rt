@@ -117,6 +117,10 @@ pub enum Choice {
     Interval(u32),
     /// Whether the device's application answers records.
     AnswersRecords(bool),
+    /// Whether a Read Implicit leaves the stored answers alone.
+    ReadsNotKept(bool),
+    /// Whether the application is asked of the records of the relation before those of a Read Implicit.
+    OwnFirst(bool),
 }
 
 /// The meaning of a line.
@@ -450,6 +454,10 @@ fn option_named(name: &[u8], value: &[u8]) -> Option<Choice>
         units(value, LONGEST_INTERVAL).map(Choice::Interval)
     } else if name == b"records".as_slice() {
         switch(value).map(Choice::AnswersRecords)
+    } else if name == b"reads-not-kept".as_slice() {
+        switch(value).map(Choice::ReadsNotKept)
+    } else if name == b"own-first".as_slice() {
+        switch(value).map(Choice::OwnFirst)
     } else {
         None
     }

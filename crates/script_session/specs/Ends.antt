@@ -26,7 +26,7 @@ use Rattle.diagnosis.specs.declared.reports.priority.Priority.TheVariants.{High,
 use Rattle.diagnosis.specs.declared.reports.report.Report.{Report}
 use Rattle.controller_core.specs.Machine.{Stepped as ControllerRun, step_of as controller_step, can_request, end_of, fresh, opening_of, report_in}
 use Rattle.script_lines.specs.declared.command.Choice.{Choice}
-use Rattle.script_lines.specs.declared.command.Choice.TheVariants.{InputsBad, ReadyLater, Interval, AnswersRecords}
+use Rattle.script_lines.specs.declared.command.Choice.TheVariants.{InputsBad, ReadyLater, Interval, AnswersRecords, ReadsNotKept, OwnFirst}
 use Rattle.script_lines.specs.Text.{out_lines}
 use Rattle.script_lines.specs.Reports.{told_line}
 use Rattle.script_session.specs.Demo.{default_choices}
@@ -262,6 +262,8 @@ with_choice options (InputsBad is_on) = record options { device = record options
 with_choice options (ReadyLater is_on) = record options { device = record options.device { ready_by_application = is_on } }
 with_choice options (Interval units) = record options { device = record options.device { smallest_interval = units } }
 with_choice options (AnswersRecords is_on) = record options { answers_records = is_on }
+with_choice options (ReadsNotKept is_on) = record options { device = record options.device { reads_not_kept = is_on } }
+with_choice options (OwnFirst is_on) = record options { device = record options.device { asks_own_first = is_on } }
 
 -- The other end with an option of the device chosen, from the next restart on.
 abbrev pub chosen : Other → Choice → Other

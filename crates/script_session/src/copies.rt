@@ -31,6 +31,7 @@ pub(crate) fn plan_copy(plan: &Plan) -> Plan
         release_on_refused_record: plan.release_on_refused_record(),
         multiple_write: plan.has_multiple_write(),
         parameters_after_plug: plan.has_parameters_after_plug(),
+        persistent_start: plan.persistent_start(),
     };
     match Plan::new(parts) {
         Ok(copy) => copy,

@@ -103,6 +103,8 @@ impl OtherEnd {
             Choice::ReadyLater(is_on) => self.options.device.ready_by_application = is_on,
             Choice::Interval(units) => self.options.device.smallest_interval = units,
             Choice::AnswersRecords(is_on) => self.options.answers_records = is_on,
+            Choice::ReadsNotKept(is_on) => self.options.device.reads_not_kept = is_on,
+            Choice::OwnFirst(is_on) => self.options.device.asks_own_first = is_on,
         }
     }
 

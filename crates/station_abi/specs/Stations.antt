@@ -148,6 +148,8 @@ options_of station = record {
   only_own_controller = not (station.only_own_controller == 0);
   records_passed_on = not (station.records_passed_on == 0);
   numbers_from = numbers_of station;
+  reads_not_kept = not (station.reads_not_kept == 0);
+  asks_own_first = not (station.asks_own_first == 0);
 }
 
 -- The identity, the modules that are plugged, the options, and the records that the application answers.

@@ -18,7 +18,7 @@ use pn_values::{Identity, Mac, Real};
 use relations::DeviceOptions;
 
 /// The version of the header.
-const ABI: u32 = 9;
+const ABI: u32 = 10;
 
 /// The number of octets of the memory for a port.
 const ROOM: usize = 77312;
@@ -57,6 +57,10 @@ pub struct Station {
     pub numbers_go_round: u32,
     /// With that the number of the first relation since the start, modulo 65,536.
     pub first_number: u32,
+    /// Not 0: a Read Implicit leaves the stored answers alone.
+    pub reads_not_kept: u32,
+    /// Not 0: a call of the relation is asked of the application before a Read Implicit.
+    pub asks_own_first: u32,
     /// Not 0: the device has no services beside it.
     pub without_services: u32,
     pub module_count: u32,
@@ -215,6 +219,8 @@ fn options_in(station: &Station) -> DeviceOptions
         only_own_controller: station.only_own_controller != 0,
         records_passed_on: station.records_passed_on != 0,
         numbers_from: numbers_in(station),
+        reads_not_kept: station.reads_not_kept != 0,
+        asks_own_first: station.asks_own_first != 0,
     }
 }
 

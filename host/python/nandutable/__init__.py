@@ -4,9 +4,9 @@
 
     with nandutable.plant("flow.json", interface="eth2") as plant:
         station = plant["flow-7"]
-        print(station.flow)                      # the value of an input
-        station.valves = 165                     # an output; Refused says what its type takes
-        station.wait_until("flow", lambda flow: flow > 10, timeout=5)
+        print(station.slot2_flow)                # the value of an input
+        station.slot4_valves = 165               # an output; Refused says what its type takes
+        station.wait_until("slot2_flow", lambda flow: flow > 10, timeout=5)
         alarm = station.wait_alarm(timeout=60)
         im0 = station.read(0, 1, 0xAFF0)         # a record
 

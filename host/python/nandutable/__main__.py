@@ -6,6 +6,7 @@ import argparse
 import difflib
 import io
 import json
+import os
 import signal
 import sys
 import time
@@ -18,11 +19,13 @@ from .values import plain
 
 EPILOG = """commands:
   values [NAME ..]        prints signals with their quality (the default)
+  get NAME ..             the same, of these signals
   names                   prints the signals with direction, type, unit and text
   watch [NAME ..]         prints each change until it is ended (Ctrl-C), or for
                           --seconds
   set NAME VALUE          sets an output; VALUE is as in the line `set`: 12.5,
-                          true, "a text", 00ff
+                          true, "a text", 00ff. With plans it returns when the
+                          value was sent, and then the output is 0 again
   read STATION SLOT SUBSLOT INDEX        prints a record in hex
   write STATION SLOT SUBSLOT INDEX HEX   writes a record
   stations                prints each station: state, address, neighbours,
@@ -39,12 +42,12 @@ status: 0; 1 refused; 2 it does not run, or does not exchange data in time;
 64 wrong words; 66 no such name
 
 examples:
-  nandutable --interface eth2 flow.json watch flow-7.flow
+  nandutable --interface eth2 flow.json watch flow-7.slot2_flow
   nandutable --socket /run/nandutable-controller/eth2/lines
-  nandutable --socket /run/nandutable-controller/eth2/lines set flow-7.valve 1"""
+  nandutable --socket /run/nandutable-controller/eth2/lines set flow-7.slot4_valve_1 1"""
 
 WITH_VALUE = ("-i", "--interface", "-s", "--socket", "--ready", "--seconds", "--retry", "--assign")
-COMMANDS = {"values": (0, None), "names": (0, 0), "watch": (0, None), "set": (2, 2), "read": (4, 4), "write": (5, 5), "stations": (0, 0), "snapshot": (0, 0)}
+COMMANDS = {"values": (0, None), "get": (1, None), "names": (0, 0), "watch": (0, None), "set": (2, 2), "read": (4, 4), "write": (5, 5), "stations": (0, 0), "snapshot": (0, 0)}
 
 
 PORTS = 3.0  # seconds within which the ports of the stations are read
@@ -83,13 +86,27 @@ def chosen(plant: Plant, names: Sequence[str]) -> List[Reading]:
     """The signals of these names; of no names all."""
     if not names:
         return [reading for station in plant for reading in station]
-    found = []
-    for name in names:
-        station, dot, signal_name = name.rpartition(".")
-        if not dot and len(plant) == 1:
-            station = next(iter(plant)).name
-        found.append(plant[station].signal(signal_name))
-    return found
+    return [one(plant, name) for name in names]
+
+
+def one(plant: Plant, name: str) -> Reading:
+    """The signal of this name, STATION.SIGNAL, or with one station SIGNAL alone."""
+    station, dot, signal_name = name.rpartition(".")
+    if not dot and len(plant) == 1:
+        station = next(iter(plant)).name
+    elif station not in plant:
+        near = difflib.get_close_matches(name, plant.state.signal_names(), 3) or [full for full in plant.state.signal_names() if full.rpartition(".")[2] == signal_name][:3]
+        raise NoSuchName(f"there is no signal {name!r}" + (f"; the nearest: {', '.join(near)}" if near else f"; a name is STATION.SIGNAL, of {', '.join(found.name for found in plant)}"))
+    return plant[station].signal(signal_name)
+
+
+def set_one(plant: Plant, name: str, value: str, is_alone: bool) -> None:
+    """Sets an output. With a controller that ends with this program the value is sent before."""
+    full = one(plant, name).name
+    plant.commands.set(full, Raw(value))
+    if is_alone:
+        plant.commands.sent(full.rpartition(".")[0])
+        print(f"{full} was sent. The relation ends with this command, and the output is 0 again; a controller with --socket keeps it")
 
 
 def watch(plant: Plant, names: Sequence[str], as_json: bool, seconds: Optional[float]) -> None:
@@ -147,7 +164,7 @@ def numbers(words: Sequence[str]) -> List[int]:
 
 
 def act(plant: Plant, command: str, words: List[str], options: argparse.Namespace) -> None:
-    if command == "values":
+    if command in ("values", "get"):
         for reading in chosen(plant, words):
             print(shown(reading, options.json))
     elif command == "names":
@@ -155,7 +172,7 @@ def act(plant: Plant, command: str, words: List[str], options: argparse.Namespac
     elif command == "watch":
         watch(plant, words, options.json, options.seconds)
     elif command == "set":
-        plant.commands.set(chosen(plant, words[:1])[0].name, Raw(words[1]))
+        set_one(plant, words[0], words[1], options.socket is None)
     elif command == "read":
         print(plant[words[0]].read(*numbers(words[1:])).hex() or "-")
     elif command == "write":
@@ -179,6 +196,19 @@ def parted(words: List[str]) -> Tuple[List[str], List[str]]:
     return words, ["values"]
 
 
+def no_command(word: str) -> str:
+    near = difflib.get_close_matches(word, COMMANDS, 1)
+    return f"no command '{word}'" + (f"; did you mean {near[0]}?" if near else "")
+
+
+def refuse_plan(made: Parser, word: str, is_socket: bool) -> None:
+    """Refuses a word in front of the command that is neither a plan nor a command."""
+    if is_socket and not word.endswith(".json"):
+        made.error(no_command(word))
+    if not is_socket and not os.path.exists(word) and difflib.get_close_matches(word, COMMANDS, 1):
+        made.error(f"{no_command(word)} There is no plan of this name either")
+
+
 def main(words: Optional[Sequence[str]] = None) -> int:
     for stream in (sys.stdout, sys.stderr):
         if isinstance(stream, io.TextIOWrapper):
@@ -187,13 +217,14 @@ def main(words: Optional[Sequence[str]] = None) -> int:
     front, command = parted(words)
     made = parser()
     options = made.parse_args(front)
+    for word in options.plans:
+        refuse_plan(made, word, options.socket is not None)
     if (options.socket is None) == (options.interface is None) or (options.socket is None) == (not options.plans):
         made.error("name --interface and plans, or --socket alone")
     if options.assign is not None and (options.interface is None or len(options.plans) > 1):
         made.error("--assign takes --interface and one plan")
     if command[0] not in COMMANDS:
-        near = difflib.get_close_matches(command[0], COMMANDS, 1)
-        made.error(f"no command '{command[0]}'" + (f"; did you mean {near[0]}?" if near else ""))
+        made.error(no_command(command[0]))
     least, most = COMMANDS[command[0]]
     if len(command) - 1 < least or (most is not None and len(command) - 1 > most):
         made.error(f"'{command[0]}' takes other words")

@@ -10,7 +10,7 @@ import contextlib
 import re
 import threading
 import time
-from typing import Callable, Dict, FrozenSet, Iterator, List, Optional, Union
+from typing import Callable, Dict, FrozenSet, Iterator, List, Optional, Tuple, Union
 
 from . import lines, values
 from .errors import Busy, Gone, Lost, NoSuchName, NotExchanging, Refused, TimedOut
@@ -20,6 +20,7 @@ from .state import Plain, PlantState
 
 ANSWER = 5.0  # seconds within which the controller answers
 DEVICE = 30.0  # seconds within which a device answers to a read or a write of a record
+UNITS_A_SECOND = 32000
 
 # The lines that only ask, and those by which an output is set too. Others release a relation, write records, or set octets.
 ASKING = frozenset(("stations", "names", "modules", "get", "statistics", "read", "diagnosis"))
@@ -172,7 +173,7 @@ class Commands:
     def set(self, name: str, value: Union[values.Value, "Raw"], timeout: float = ANSWER) -> None:
         """Sets an output by its full name, STATION.SIGNAL. Returns when the controller has it; it goes out with the next cyclic frame. Raises
         `Refused` with the reason: the range of the type, an input, no such signal; `NotExchanging` if no data is exchanged with the station.
-        A refused value is not kept."""
+        A refused value is not kept. `sent` waits for the frame."""
         text = value.text if isinstance(value, Raw) else values.encode(value)
         if not text or any(letter in name for letter in " \t\r\n") or not name:
             raise Refused("a name has no blanks, and a value is not empty")
@@ -184,6 +185,32 @@ class Commands:
         found = self._ask(f"set {name} {text}", is_answer, timeout).found
         if isinstance(found, lines.SetRefused):
             raise _refusal(found.reason)
+
+    def sent(self, station: str, timeout: float = ANSWER) -> None:
+        """Returns when a cyclic frame with the outputs that the controller has now was sent to the station. The controller sends one in each interval, so
+        a whole interval of its time passes. Raises `NotExchanging` if data is no longer exchanged, and `TimedOut`: the interface takes no frames."""
+        found = self.state.station(station)
+        since = found["since"] if found is not None and found["state"] == "exchanging" else None
+        units = -(-((found["interval_us"] or 0) + 1) * 4 // 125) if found is not None else 0  # of 31.25 us, rounded up
+        ends = time.monotonic() + timeout + 4 * units / UNITS_A_SECOND
+        passed, not_sent = self._time_and_loss()
+        while True:
+            now, lost = self._time_and_loss()
+            found = self.state.station(station)
+            if since is None or found is None or (found["state"], found["since"]) != ("exchanging", since):
+                raise NotExchanging(f"{_NO_DATA} with {station} any more; whether a frame with the value was sent is not known")
+            if lost != not_sent:
+                passed, not_sent = now, lost  # that frame was lost, so another one is waited for
+            elif now - passed > units:
+                return
+            if time.monotonic() > ends:
+                raise TimedOut(f"no frame with the value was sent to {station} within {timeout:g} s")
+            time.sleep(0.002)
+
+    def _time_and_loss(self) -> Tuple[int, int]:
+        """The units of time that the controller has counted, and the frames that its interface did not take."""
+        kept = self._ask("statistics", lambda line: isinstance(line, lines.Count) and line.what == "lines lost", keeps=lambda line: isinstance(line, (lines.Times, lines.Frames))).kept
+        return (sum(line.units - line.forgotten for line in kept if isinstance(line, lines.Times)), sum(line.not_sent for line in kept if isinstance(line, lines.Frames)))
 
     def full_name(self, name: str) -> str:
         """STATION.SIGNAL. With one station a name may be SIGNAL alone."""

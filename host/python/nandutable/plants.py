@@ -184,7 +184,7 @@ def _others(name: str, names: List[str]) -> str:
 
 
 class Station:
-    """A station. Its signals are attributes: `station.flow` is the value of an input or an output, `station.valves = 165` sets an output. A signal
+    """A station. Its signals are attributes: `station.slot2_flow` is the value of an input or an output, `station.slot4_valves = 165` sets an output. A signal
     that has the name of a method is `station["read"]`."""
 
     _plant: "Plant"
@@ -462,13 +462,13 @@ def plant(*plans: str, interface: Optional[str] = None, socket: Optional[str] = 
     """Opens a plant: starts a controller for these plans on a network interface, or uses the one that runs already at a socket.
 
         with nandutable.plant("flow.json", interface="eth2") as plant:
-            print(plant["flow-7"].flow)
+            print(plant["flow-7"].slot2_flow)
 
         with nandutable.plant(socket="/run/nandutable-controller/eth2/lines") as plant:
 
     Returns when each station exchanges data. Raises `TimedOut` after `ready` seconds, with what the controller waits for; with ready=None it does
     not wait. With `retry` a relation that has ended is started again after that many seconds. `options` are more words for the controller, such as
-    ("--deadband", "flow=0.5"), `controller` is its path, and `prefix` are words in front of it. Starting a controller takes the capability
+    ("--deadband", "slot2_flow=0.5"), `controller` is its path, and `prefix` are words in front of it. Starting a controller takes the capability
     CAP_NET_RAW, using a socket takes only the right to open it."""
     if (socket is None) == (interface is None) or (socket is None) == (not plans):
         raise ValueError("name plans and an interface, or a socket alone")

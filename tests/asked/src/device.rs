@@ -13,10 +13,10 @@ use test_stations::{
 use crate::samples::named;
 
 /// The operation Read Implicit.
-const READ_IMPLICIT: u8 = 5;
+pub(crate) const READ_IMPLICIT: u8 = 5;
 
 /// Record 0x1234 of slot 1, which can be read and written.
-const BOTH: RecordName = RecordName {
+pub(crate) const BOTH: RecordName = RecordName {
     slot: 1,
     subslot: 1,
     index: 0x1234,
@@ -49,7 +49,7 @@ const INTO: RecordName = RecordName {
 const DATE: [u8; 22] = *b"\x00\x22\x00\x12\x01\x002024-05-06 07:08";
 
 /// The header of a request of this BlockType for this many octets of a record of the relation.
-fn header(kind: u8, slot: u16, index: u16, length: usize) -> Vec<u8> {
+pub(crate) fn header(kind: u8, slot: u16, index: u16, length: usize) -> Vec<u8> {
     let mut blocks = vec![0, kind, 0, 60, 1, 0, 0, 9];
     blocks.extend([0x11; 16]);
     blocks.extend([0; 4]);
@@ -63,12 +63,12 @@ fn header(kind: u8, slot: u16, index: u16, length: usize) -> Vec<u8> {
 }
 
 /// A Read of a record.
-fn read(name: &RecordName, length: usize) -> Vec<u8> {
+pub(crate) fn read(name: &RecordName, length: usize) -> Vec<u8> {
     header(9, name.slot, name.index, length)
 }
 
 /// A Write of a record.
-fn write(slot: u16, index: u16, octets: &[u8]) -> Vec<u8> {
+pub(crate) fn write(slot: u16, index: u16, octets: &[u8]) -> Vec<u8> {
     let mut blocks = header(8, slot, index, octets.len());
     blocks.extend(octets);
     blocks
@@ -76,10 +76,15 @@ fn write(slot: u16, index: u16, octets: &[u8]) -> Vec<u8> {
 
 /// A station whose application answers these records, with a relation whose activity timer has this factor.
 fn station_with(names: &[RecordName], factor: u16) -> Station {
+    station_of(names, factor, DeviceOptions::default())
+}
+
+/// The same with these options.
+pub(crate) fn station_of(names: &[RecordName], factor: u16, options: DeviceOptions) -> Station {
     let started = Device::boot_named(
         demo_identity(),
         plugged(),
-        DeviceOptions::default(),
+        options,
         named(names),
         MemoryFlash::blank(),
     );
@@ -97,30 +102,30 @@ fn station() -> Station {
 }
 
 /// A step, whose note is this one. Returns the frames that it sends.
-fn step(device: &mut Station, event: &Event<'_>, note: Note) -> Vec<Vec<u8>> {
+pub(crate) fn step(device: &mut Station, event: &Event<'_>, note: Note) -> Vec<Vec<u8>> {
     let mut outbox = Outbox::new();
     assert_eq!(device.step(event, &mut outbox), note);
     outbox.as_slice().iter().map(|frame| frame.as_slice().to_vec()).collect()
 }
 
 /// A call that is handled. Returns the frames that it sends.
-fn told(device: &mut Station, operation: u8, activity: u8, sequence: u16, blocks: &[u8]) -> Vec<Vec<u8>> {
+pub(crate) fn told(device: &mut Station, operation: u8, activity: u8, sequence: u16, blocks: &[u8]) -> Vec<Vec<u8>> {
     step(device, &frame(&call(operation, activity, sequence, blocks)), Note::Done)
 }
 
 /// The PNIOStatus of the one response.
-fn status_in(sent: &[Vec<u8>]) -> [u8; 4] {
+pub(crate) fn status_in(sent: &[Vec<u8>]) -> [u8; 4] {
     assert_eq!(sent.len(), 1);
     sent[0][122..126].try_into().expect("a status")
 }
 
 /// What is asked: its number and its index.
-fn number_and_index(device: &Station) -> Option<(u32, u16)> {
+pub(crate) fn number_and_index(device: &Station) -> Option<(u32, u16)> {
     device.asked().map(|asked| (asked.number, asked.index))
 }
 
 /// Units that pass. Returns the frames other than inputs that they send.
-fn passed(device: &mut Station, units: u32) -> Vec<Vec<u8>> {
+pub(crate) fn passed(device: &mut Station, units: u32) -> Vec<Vec<u8>> {
     let mut sent = Vec::new();
     let mut outbox = Outbox::new();
     let mut left = units;

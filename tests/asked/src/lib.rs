@@ -7,4 +7,5 @@ mod four;
 mod judging;
 mod machine;
 mod names;
+mod options;
 mod samples;

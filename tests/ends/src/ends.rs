@@ -646,3 +646,158 @@ fn what_the_device_says_of_its_inputs() {
     let _ = told(&mut ends.controller, &ControllerEvent::Stop);
     assert_eq!(ends.provided(1, 1), None);
 }
+
+// ---- a relation that the device holds already
+
+/// Units of a second: after each a request is sent again.
+const SECOND: u32 = 32_000;
+
+/// The catalogue of the demo station with PersistentStart.
+fn persistent() -> String {
+    let text = PUMP.replace(r#""DataHoldFactor":3,"#, r#""DataHoldFactor":3,"PersistentStart":true,"#);
+    assert_ne!(text, PUMP);
+    text
+}
+
+/// An answer to a call with another status. Its UDP checksum is 0: it is not used.
+fn with_status(answer: &Bytes, status: [u8; 4]) -> Bytes {
+    let mut other = octets(answer.as_slice());
+    for (place, octet) in (40..42).zip([0, 0]).chain((122..126).zip(status)) {
+        set(&mut other, place, octet);
+    }
+    other
+}
+
+impl Ends {
+    /// The device has accepted the Connect, and the answer was lost. It stores the answers to four other controllers since, and none to this
+    /// one. The controller has sent its Connect again, which is under way.
+    fn unanswered(alloc: Global, catalogue: &str) -> Ends {
+        let mut ends = Ends::new(alloc, catalogue);
+        ends.turns(2);
+        ends.is_at(State::Connecting);
+        let connect = octets(ends.sent.as_slice());
+        ends.notes(&frame(&connect), Note::Done);
+        ends.has_status([0; 4]);
+        ends.is_related(Some(Phase::Started));
+        for octet in 0x22..0x26 {
+            let mut other = controller(alloc, catalogue, octet);
+            let mut sent = octets(other.opening().as_slice());
+            for _ in 0..2 {
+                ends.notes(&frame(&sent), Note::Done);
+                hear(&mut other, &ends.answers.as_slice()[0], &mut sent);
+            }
+            ends.has_status([0xDB, 0x81, 0x40, 4]);
+            assert_eq!(other.state(), State::Ended(Cause::Refused));
+        }
+        assert_eq!(ends.seconds(1), [(SECOND, connect)]);
+        ends
+    }
+
+    /// What the controller sends in this many seconds: each frame, and the unit with which it is sent.
+    fn seconds(&mut self, count: u32) -> Vec<(u32, Bytes)> {
+        let mut all = Vec::new();
+        for unit in 1..=count * SECOND {
+            let sent = told(&mut self.controller, &ControllerEvent::Tick);
+            all.extend(sent.as_slice().iter().map(|frame| (unit, octets(frame.as_slice()))));
+        }
+        all
+    }
+
+    /// The controller has ended because it was refused, and sends nothing with these frames and in three seconds.
+    fn is_refused_silently(&mut self, sent: &Outbox) {
+        self.is_at(State::Ended(Cause::Refused));
+        assert_eq!(sent.len(), 0);
+        assert_eq!(self.seconds(3), []);
+    }
+
+    /// The next controller, with another ARUUID, starts.
+    fn starts_again(&mut self, alloc: Global, catalogue: &str) {
+        self.controller = controller(alloc, catalogue, 0x33);
+        self.sent = octets(self.controller.opening().as_slice());
+        self.turns(4);
+    }
+}
+
+// With PersistentStart the controller ends with a Release, which it repeats each second until it is answered. The next start succeeds.
+#[test]
+fn a_relation_that_is_held_already_is_released() {
+    let text = persistent();
+    let mut ends = Ends::unanswered(Global, &text);
+    ends.turn();
+    ends.has_status([0xDB, 0x81, 0x40, 6]);
+    ends.is_at(State::Ended(Cause::Refused));
+    let release = octets(ends.sent.as_slice());
+    assert_eq!(release.get(110..112), Some([0, 1].as_slice()));
+    let lost = [1, 2, 3].map(|second| (second * SECOND, octets(release.as_slice())));
+    assert_eq!(ends.seconds(3), lost);
+    ends.is_related(Some(Phase::Started));
+    ends.turn();
+    ends.has_status([0; 4]);
+    ends.is_related(None);
+    assert_eq!(ends.seconds(3), []);
+    ends.is_at(State::Ended(Cause::Refused));
+    ends.starts_again(Global, &text);
+    ends.is_at(State::Exchanging);
+}
+
+// Without the key it ends as after each refused Connect: nothing is sent, and the device keeps the relation.
+#[test]
+fn a_relation_that_is_held_already_is_kept_without_the_key() {
+    let mut ends = Ends::unanswered(Global, PUMP);
+    let request = octets(ends.sent.as_slice());
+    ends.notes(&frame(&request), Note::Done);
+    ends.has_status([0xDB, 0x81, 0x40, 6]);
+    let answer = one(&ends.answers).expect("an answer");
+    let sent = told(&mut ends.controller, &ControllerEvent::Frame(answer));
+    ends.is_refused_silently(&sent);
+    ends.is_related(Some(Phase::Started));
+    ends.starts_again(Global, PUMP);
+    ends.has_status([0xDB, 0x81, 0x40, 4]);
+    ends.is_at(State::Ended(Cause::Refused));
+}
+
+// Any other status of the Connect ends it without a frame, also with the key. So does this one of PrmEnd.
+#[test]
+fn no_other_refusal_is_followed_by_a_release() {
+    let text = persistent();
+    let mut first = Ends::unanswered(Global, &text);
+    let request = octets(first.sent.as_slice());
+    first.notes(&frame(&request), Note::Done);
+    let answer = one(&first.answers).expect("an answer");
+    let others = [
+        [0xDB, 0x81, 0x40, 0],
+        [0xDB, 0x81, 0x40, 4],
+        [0xDB, 0x81, 0x40, 5],
+        [0xDB, 0x81, 0x40, 7],
+        [0xDB, 0x81, 0x40, 0x86],
+        [0xDB, 0x81, 0x41, 6],
+        [0xDB, 0x81, 0, 6],
+        [0xDB, 0x80, 0x40, 6],
+        [0xDB, 0, 0x40, 6],
+        [0xDD, 0x81, 0x40, 6],
+        [0xDF, 0x81, 0x40, 6],
+        [0, 0x81, 0x40, 6],
+        [6, 0x40, 0x81, 0xDB],
+    ];
+    for status in others {
+        let mut ends = Ends::new(Global, &text);
+        ends.turns(2);
+        let refusal = with_status(&answer, status);
+        let sent = told(&mut ends.controller, &ControllerEvent::Frame(refusal));
+        ends.is_refused_silently(&sent);
+    }
+    let refusal = with_status(&answer, [0xDB, 0x81, 0x40, 6]);
+    let sent = told(&mut first.controller, &ControllerEvent::Frame(refusal));
+    assert_eq!(sent.len(), 1);
+    for status in [[0xDB, 0x81, 0x40, 6], [0xDD, 0x81, 0x40, 6]] {
+        let mut ends = Ends::new(Global, &text);
+        ends.turns(3);
+        ends.is_at(State::Ending);
+        let request = octets(ends.sent.as_slice());
+        ends.notes(&frame(&request), Note::Done);
+        let answer = octets(ends.answers.as_slice()[0].as_slice());
+        let refusal = with_status(&answer, status);
+        let sent = told(&mut ends.controller, &ControllerEvent::Frame(refusal));
+        ends.is_refused_silently(&sent);
+    }
+}

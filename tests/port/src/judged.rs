@@ -40,6 +40,8 @@ fn station() -> Station {
         records_passed_on: 0,
         numbers_go_round: 0,
         first_number: 0,
+        reads_not_kept: 0,
+        asks_own_first: 0,
         without_services: 0,
         module_count: 3,
         modules: std::array::from_fn(|slot| Module {
@@ -61,12 +63,12 @@ fn station() -> Station {
 fn fault(change: fn(&mut Station)) -> u32 {
     let mut station = station();
     change(&mut station);
-    judge(77312, 9, 1680, &station)
+    judge(77312, 10, 1680, &station)
 }
 
 #[test]
 fn each_fault_has_its_number() {
-    let rows: [(fn(&mut Station), u32); 51] = [
+    let rows: [(fn(&mut Station), u32); 52] = [
         (|_| (), 0),
         (|s| s.station_type_length = 26, 4),
         (|s| s.module_count = 17, 4),
@@ -100,6 +102,7 @@ fn each_fault_has_its_number() {
         (|s| s.smallest_interval = 65536, 0),
         (|s| (s.inputs_begin_bad, s.ready_by_application) = (65535, 2), 0),
         (|s| (s.numbers_go_round, s.first_number) = (2, u32::MAX), 0),
+        (|s| (s.reads_not_kept, s.asks_own_first) = (2, u32::MAX), 0),
         (|s| s.record_count = 17, 4),
         (|s| s.record_count = 16, 0),
         (|s| s.record_count = 0, 0),
@@ -128,7 +131,7 @@ fn each_fault_has_its_number() {
 #[test]
 fn another_header_or_a_small_room() {
     let station = station();
-    for (size, abi, op_size, wanted) in [(77312, 8, 1680, 2), (77312, 10, 1680, 2), (77312, 9, 1676, 2), (77311, 9, 1680, 3)] {
+    for (size, abi, op_size, wanted) in [(77312, 9, 1680, 2), (77312, 11, 1680, 2), (77312, 10, 1676, 2), (77311, 10, 1680, 3)] {
         assert_eq!(judge(size, abi, op_size, &station), wanted);
     }
 }

@@ -97,6 +97,33 @@ fn without_the_option_nothing_is_asked() {
     assert_eq!(without(&late)[4..], wanted);
 }
 
+// The first option is off; each repeat of a Read Implicit is asked again if it is on.
+#[test]
+fn a_read_implicit_is_handled_again() {
+    let again = format!("{READ}\nanswer 1 01\n{READ}\nasked");
+    assert_eq!(after_start(&again)[3..], ["out 00000000 01", "note done", "asked -"]);
+    let on = format!("option reads-not-kept on\n{BEGUN}{again}");
+    assert_eq!(printed(&on)[4..], ["note done", "out 00000000 01", "note done", "note done", "asked 2 1 1 8192 read 4"]);
+    assert_eq!(printed(&on.replacen("not-kept on", "not-kept off", 1)), printed(&format!("{BEGUN}{again}")));
+}
+
+/// A Read Implicit is asked, and then the controller writes the record. What is asked is shown after each, and the answer to the controller.
+fn displaced(option: &str) -> Vec<String> {
+    let start = EXAMPLE.lines().take_while(|line| !line.starts_with("# A Read:")).collect::<Vec<&str>>().join("\n");
+    let begun = start.replacen("option records on", &format!("option records on\n{option}"), 1);
+    let lines = printed(&format!("{begun}\n{READ}\nasked\nwrite 1 1 8192 0a\ndeliver\nasked\nanswer 2\ndeliver\nreply"));
+    lines.into_iter().filter(|line| line.starts_with("asked") || line.starts_with("reply")).collect()
+}
+
+#[test]
+fn a_controller_is_asked_before_a_stranger() {
+    let stranger = "asked 1 1 1 8192 read 4";
+    assert_eq!(displaced("option own-first on"), [stranger, "asked 2 1 1 8192 write 0a", "reply write 1 1 8192 done"]);
+    for option in ["option own-first off", "#"] {
+        assert_eq!(displaced(option), [stranger, stranger, "reply write 1 1 8192 refused df80c200"]);
+    }
+}
+
 #[test]
 fn without_power_nothing_is_asked() {
     let lost = format!("{SET_PUMP_1}\ncut 0 ff\n{SET_PUMP_2}\nasked\nanswer 1 00\nanswer 1\nrefuse 1 160 0\nrestart\nasked\n");

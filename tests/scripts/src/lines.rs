@@ -29,7 +29,7 @@ fn a_name_is_kept_over_a_restart() {
     prints(Global, script.as_str(), wanted.as_str());
 }
 
-const SHORT: [(&str, &str); 17] = [
+const SHORT: [(&str, &str); 18] = [
     ("", "boot ok\n"),
     (
         "frame 010ecf00000002000000000281000000\n",
@@ -61,6 +61,7 @@ const SHORT: [(&str, &str); 17] = [
         "option inputs-bad on\noption ready off\noption interval 065536",
         "boot ok\n",
     ),
+    ("option reads-not-kept on\noption own-first off", "boot ok\n"),
     ("status 01 1 bad\nstatus 1 1 good", "boot ok\nnote done\nnote done\n"),
     ("status 1 2 good", "boot ok\nnote refused\n"),
     ("option ready on\nready\nrestart\nready", "boot ok\nnote refused\nboot ok\nnote refused\n"),
@@ -103,7 +104,7 @@ fn hex_digits() {
     }
 }
 
-const REFUSED: [&str; 75] = [
+const REFUSED: [&str; 79] = [
     "x",
     " ",
     "\r",
@@ -153,6 +154,10 @@ const REFUSED: [&str; 75] = [
     "option interval 65537",
     "option interval off",
     "option speed 1",
+    "option reads-not-kept",
+    "option reads_not_kept on",
+    "option own-first yes",
+    "option own-first on off",
     "output-status 2 1 good",
     "show 1",
     "cut",

@@ -28,7 +28,8 @@ use uuid::Uuid;
 const AR: Uuid = Uuid::from_u128(0x11111111_2222_3333_4444_555555555555);
 
 /// The Connect of a plan, its records, whether it goes on after a refused one, whether it releases the relation when it ends after a refused
-/// one, whether it writes them in lists, and whether it writes them again after a plug.
+/// one, whether it writes them in lists, whether it writes them again after a plug, and whether it releases a relation that the device holds
+/// already.
 fn plan_lines(plan: &Plan) -> String {
     let connect = format!("connect {}\n", hex(plan.connect(&AR).as_slice()));
     let records = plan.records().iter().map(|record| {
@@ -54,7 +55,12 @@ fn plan_lines(plan: &Plan) -> String {
         true => "parameters\n",
         false => "",
     };
-    connect + &records.collect::<String>() + goes_on + releases + lists + parameters
+    let persistent = match plan.persistent_start() {
+        true => "persistent\n",
+        false => "",
+    };
+    let said = [goes_on, releases, lists, parameters, persistent].concat();
+    connect + &records.collect::<String>() + &said
 }
 
 /// What a catalogue comes to.

@@ -5,7 +5,7 @@ const ROOM: usize = 77_312;
 const ALIGNMENT: usize = 16;
 
 const _: () = assert!(size_of::<Port>() <= ROOM && align_of::<Port>() <= ALIGNMENT);
-const _: () = assert!(size_of::<Op>() == 1680 && size_of::<Station>() == 1724);
+const _: () = assert!(size_of::<Op>() == 1680 && size_of::<Station>() == 1732);
 
 /// There is no heap: nothing here takes memory. `uuid` names an allocator without using it.
 struct NoHeap;

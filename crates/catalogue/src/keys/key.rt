@@ -47,6 +47,7 @@ pub enum Key {
     ContinueOnRefusedRecord,
     ReleaseOnRefusedRecord,
     ParametersAfterPlug,
+    PersistentStart,
 }
 
 impl Key {
@@ -98,6 +99,7 @@ impl Key {
             Key::ContinueOnRefusedRecord => "ContinueOnRefusedRecord",
             Key::ReleaseOnRefusedRecord => "ReleaseOnRefusedRecord",
             Key::ParametersAfterPlug => "ParametersAfterPlug",
+            Key::PersistentStart => "PersistentStart",
         }
     }
 }

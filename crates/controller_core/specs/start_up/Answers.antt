@@ -9,6 +9,7 @@ use Rattle.dcp_core.specs.Response.{Answered}
 use Rattle.dcp_core.specs.Answered.{value_among}
 use Rattle.dcp_core.specs.Identify.{suite_bytes}
 use Rattle.rpc_core.specs.declared.header.CallHeader.{CallHeader}
+use Rattle.rpc_core.specs.declared.response.Status.{Status}
 use Rattle.connect_blocks.specs.declared.control.ControlBlock.{ControlBlock}
 use Rattle.plans.specs.declared.parts.Parts.{Parts}
 use Rattle.plans.specs.declared.parts.Station.{Station}
@@ -85,6 +86,16 @@ is_answer setup request header =
 abbrev pub is_refused : Setup → Request → Refusal → Bool
 is_refused setup request refusal =
     is_call request && (pointwise nat_eq refusal.activity setup.activity && refusal.sequence == sequence_of setup.plan request)
+
+-- State conflict of a Connect (IEC 61158-6-10, 5.2.6: ErrorCode Connect, ErrorDecode PNIO, ErrorCode1 CMRPC): the device holds this relation
+-- already.
+abbrev pub is_state_conflict : Status → Bool
+is_state_conflict status = status.code == 0xDB && (status.decode == 0x81 && (status.code1 == 0x40 && status.code2 == 6))
+
+-- Whether the plan says that a Connect with this status is followed by a Release: the device holds the relation, since the positive answer
+-- to its Connect was lost.
+abbrev pub is_held : Parts → Status → Bool
+is_held plan status = plan.persistent_start && is_state_conflict status
 
 -- An ApplicationReady of the relation.
 abbrev pub is_ready : Setup → ControlBlock → Bool

@@ -3,14 +3,14 @@ ghost use Rattle.std.specs.Prelude.{◌≡◌, option_map};
 ghost use Rattle.dcp_core.specs.Answered.{answered as answered_as};
 ghost use Rattle.dcp_core.specs.Identify.{suite_bytes};
 ghost use Rattle.rpc_core.specs.Call.{asked};
-ghost use Rattle.controller_core.specs.start_up.Answers.{ident_bytes, is_addressed, is_answer, is_found, is_ready, is_refused, is_right, is_set_answer, is_reported, ready_in};
+ghost use Rattle.controller_core.specs.start_up.Answers.{ident_bytes, is_addressed, is_answer, is_found, is_held, is_ready, is_refused, is_right, is_set_answer, is_reported, is_state_conflict, ready_in};
 
 use arrayvec::ArrayVec;
 use block_codec::{Block, ControlBlock, read_block};
 use controller_messages::{Refusal, Request, Setup};
 use dcp_core::{Kind, Service};
 use plans::{Plan, SESSION_KEY, Station};
-use rpc_core::{Call, Response};
+use rpc_core::{Call, Response, Status};
 
 /// Operation of Control.
 const CONTROL: u16 = 4;
@@ -121,6 +121,22 @@ pub fn is_refused(setup: &Setup, request: Request, refusal: &Refusal) -> bool
             refusal.activity == setup.activity && refusal.sequence == request.sequence(&setup.plan)
         }
     }
+}
+
+/// Whether a Connect with this status is followed by a Release: the plan says so, and the device holds the relation already, since its positive
+/// answer to an earlier Connect was lost.
+pub fn is_held(plan: &Plan, status: Status) -> bool
+    ensures { result ≡ is_held plan.now status }
+{
+    plan.persistent_start() && is_state_conflict(status)
+}
+
+/// Whether a status is State conflict of a Connect (IEC 61158-6-10, 5.2.6): ErrorCode Connect, ErrorDecode PNIO, ErrorCode1 CMRPC, ErrorCode2
+/// State conflict.
+fn is_state_conflict(status: Status) -> bool
+    ensures { result ≡ is_state_conflict status }
+{
+    status.code == 0xDB && status.decode == 0x81 && status.code1 == 0x40 && status.code2 == 6
 }
 
 /// Whether an ApplicationReady belongs to the relation.

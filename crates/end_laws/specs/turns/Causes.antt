@@ -32,7 +32,7 @@ use Rattle.controller_core.specs.declared.stored.state.Cause.{Cause}
 use Rattle.controller_core.specs.declared.stored.state.Cause.TheVariants as why
 use Rattle.controller_core.specs.declared.stored.state.State.{State}
 use Rattle.controller_core.specs.declared.stored.state.State.TheVariants.{Looking, Addressing, Ended}
-use Rattle.controller_core.specs.start_up.Answers.{ident_bytes}
+use Rattle.controller_core.specs.start_up.Answers.{ident_bytes, is_state_conflict}
 use Rattle.controller_core.specs.start_up.Outcomes.{are_written}
 use Rattle.controller_core.specs.stored.Alarms.{header_of, is_alarm}
 use Rattle.controller_core.specs.stored.State.{Controlling, Live, is_limited}
@@ -148,16 +148,27 @@ IsReleaseFromConnect setup live Looking frames = frames ≡ []
 IsReleaseFromConnect setup live Addressing frames = frames ≡ []
 IsReleaseFromConnect setup live state frames = IsReleaseAlone setup live frames
 
+-- The Connect of this controller is refused with State conflict: the device holds the relation already.
+pub record IsHeldAlready (live : Live) (came : Came) : Type 0 where
+  pub response : Response
+  pub comes : came ≡ Hears (Responds response)
+  pub connects : live.asked ≡ Some asks.Connect
+  pub conflicts : is_state_conflict response.status ≡ true
+
+-- The plan says that the device is informed of this refusal: of each of a record, or of State conflict of the Connect.
+abbrev pub IsInformed : Setup → Live → Came → Type 0
+IsInformed setup live came = (setup.plan.release_on_refused_record ≡ true) ⊎ ((setup.plan.persistent_start ≡ true) × IsHeldAlready live came)
+
 -- These are the frames by which an end with this cause is reported to the device: an ERR, a Release, or none.
-abbrev pub IsToldAs : Setup → Live → Cause → List (List ℕ) → Type 0
-IsToldAs setup live why.WrongDevice frames = frames ≡ []
-IsToldAs setup live why.Refused frames = (frames ≡ []) ⊎ ((setup.plan.release_on_refused_record ≡ true) × IsReleaseAlone setup live frames)
-IsToldAs setup live why.ModuleDiff frames = IsReleaseAlone setup live frames
-IsToldAs setup live why.DataHold frames = IsErrAlone setup live reason.DataHold frames
-IsToldAs setup live why.Aborted frames = frames ≡ []
-IsToldAs setup live why.AlarmRetries frames = IsErrAlone setup live reason.Other frames
-IsToldAs setup live why.Stopped frames = IsReleaseFromConnect setup live live.phase frames
-IsToldAs setup live why.NoProgress frames = IsReleaseFromConnect setup live live.phase frames
+abbrev pub IsToldAs : Setup → Live → Came → Cause → List (List ℕ) → Type 0
+IsToldAs setup live came why.WrongDevice frames = frames ≡ []
+IsToldAs setup live came why.Refused frames = (frames ≡ []) ⊎ (IsInformed setup live came × IsReleaseAlone setup live frames)
+IsToldAs setup live came why.ModuleDiff frames = IsReleaseAlone setup live frames
+IsToldAs setup live came why.DataHold frames = IsErrAlone setup live reason.DataHold frames
+IsToldAs setup live came why.Aborted frames = frames ≡ []
+IsToldAs setup live came why.AlarmRetries frames = IsErrAlone setup live reason.Other frames
+IsToldAs setup live came why.Stopped frames = IsReleaseFromConnect setup live live.phase frames
+IsToldAs setup live came why.NoProgress frames = IsReleaseFromConnect setup live live.phase frames
 
 -- ---- the law
 
@@ -165,7 +176,7 @@ IsToldAs setup live why.NoProgress frames = IsReleaseFromConnect setup live live
 -- cause says.
 pub record EndsBy (controller : Controlling) (event : Event) (cause : Cause) : Type 0 where
   pub cause_is : HasCause controller.setup controller.live (came_by controller.setup event) cause
-  pub told : IsToldAs controller.setup controller.live cause (step_of controller event).frames
+  pub told : IsToldAs controller.setup controller.live (came_by controller.setup event) cause (step_of controller event).frames
 
 -- An event with which a controller ends is that of its cause, and what is then sent is what the cause says.
 abbrev pub EachEndHasItsCause : Type 0

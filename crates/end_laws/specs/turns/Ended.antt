@@ -1,5 +1,5 @@
 -- What holds for a controller that ended.
-use Rattle.std.specs.Prelude.{◌≡◌, ◌⊎◌, ℕ, Bool, true, false, List, [], ◌∷◌, if◌then◌else◌, Option, Some, None}
+use Rattle.std.specs.Prelude.{◌≡◌, ◌⊎◌, ◌||◌, ℕ, Bool, true, false, List, [], ◌∷◌, if◌then◌else◌, Option, Some, None}
 use Rattle.std.specs.List.{AllByRecursion}
 use Rattle.pn_values.specs.declared.mac.Mac.{Mac}
 use Rattle.rpc_core.specs.Response.{Answered as Response}
@@ -37,9 +37,9 @@ abbrev pub release_of : Controlling → Option (List ℕ)
 release_of controller = release_in controller.setup controller.live.device controller.live.asked
 
 -- The causes of which the device may be informed by a Release: modules that differ, a stop by the application, a state that
--- lasted too long, and, if the plan says so, a refused record.
+-- lasted too long, and, if the plan says so, a refused record, or a Connect that is refused with State conflict.
 abbrev pub may_release : Parts → Cause → Bool
-may_release plan why.Refused = plan.release_on_refused_record
+may_release plan why.Refused = plan.release_on_refused_record || plan.persistent_start
 may_release plan why.ModuleDiff = true
 may_release plan why.Stopped = true
 may_release plan why.NoProgress = true

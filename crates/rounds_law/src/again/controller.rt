@@ -1,14 +1,16 @@
 //! A controller that is refused, or whose device is silent.
-ghost use Rattle.std.specs.Prelude.{◌≡◌, ◌⊎◌, ℕ, false, List, []};
+ghost use Rattle.std.specs.Prelude.{◌≡◌, ◌⊎◌, ℕ, true, false, List, []};
 ghost use Rattle.controller_core.specs.declared.stored.state.State.TheVariants.{Addressing, Connecting};
 ghost use Rattle.controller_core.specs.declared.stored.state.Cause.{Cause};
 ghost use Rattle.controller_core.specs.declared.stored.state.Cause.TheVariants.{Refused};
 ghost use Rattle.controller_core.specs.declared.stored.event.Event.TheVariants.{Tick};
+ghost use Rattle.controller_core.specs.start_up.Answers.{is_state_conflict};
 ghost use Rattle.controller_core.specs.stored.State.{Controlling};
 ghost use Rattle.controller_core.specs.Machine.{step_of};
 ghost use Rattle.controller_messages.specs.declared.request.Request.TheVariants.{Address, Connect};
 ghost use Rattle.rounds_law.specs.Path.{Asks, controller_step};
-ghost use Rattle.rounds_law.specs.Again.{HasEnded, HasLeft, HasWaited, IsAlone, IsRefusal, unset_frame};
+ghost use Rattle.rounds_law.specs.Again.{HasEnded, HasLeft, HasWaited, IsAlone, IsOtherRefusal, IsRefusal, unset_frame};
+ghost use Rattle.rounds_law.specs.Abandoned.{EndsFor, Releases};
 
 use controller_messages::Setup;
 use end_laws::{answers_are_heard, responses_are_heard, stations_are_real};
@@ -16,9 +18,16 @@ use pn_values::Identity;
 
 /// What a controller does if its device refuses it or is silent. These are laws of the machine by which each step of a controller is specified.
 pub fn controller_ends_refused(setup: &Setup, identity: &Identity)
-    // After a negative response to its Connect, the controller has ended.
+    // After a negative response to its Connect, the controller has ended. It sends nothing, or a Release.
+    ensures denied { (controller : Controlling) (spare : ℕ) (octets : List ℕ) → Asks setup.now identity.now.mac Connecting Connect None spare controller
+        → IsRefusal setup.now identity.now octets → EndsFor setup.now identity.now Refused 0 (controller_step controller octets) }
+    // It sends a Release if the response says that the device holds its relation already, and the plan has PersistentStart.
+    ensures informed { (controller : Controlling) (spare : ℕ) (octets : List ℕ) → Asks setup.now identity.now.mac Connecting Connect None spare controller
+        → (refusal : IsRefusal setup.now identity.now octets) → setup.now.plan.persistent_start ≡ true → is_state_conflict refusal.status ≡ true
+        → Releases setup.now identity.now Refused 0 (controller_step controller octets) }
+    // It sends nothing unless the response says that the device holds its relation already.
     ensures refused { (controller : Controlling) (spare : ℕ) (octets : List ℕ) → Asks setup.now identity.now.mac Connecting Connect None spare controller
-        → IsRefusal setup.now identity.now octets
+        → IsOtherRefusal setup.now identity.now octets
         → ((controller_step controller octets).frames ≡ []) × HasEnded setup.now Refused (controller_step controller octets).controller }
     // After a negative answer to the Set of the IP suite, the controller has ended.
     ensures unset { (controller : Controlling) (spare : ℕ) → Asks setup.now identity.now.mac Addressing Address None spare controller

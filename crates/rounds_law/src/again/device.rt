@@ -11,10 +11,11 @@ ghost use Rattle.device_core.specs.Machine.{heard_step};
 ghost use Rattle.controller_messages.specs.declared.request.Request.TheVariants.{Address, Connect};
 ghost use Rattle.both_ends.specs.startup.Played.{CanMeet};
 ghost use Rattle.rounds_law.specs.Path.{AsksNothing, IsAddressed, IsIgnored, IsOutputs, device_step, request_to};
-ghost use Rattle.rounds_law.specs.Again.{HasEarlier, IsEnd, IsRefusal, unset_frame};
+ghost use Rattle.rounds_law.specs.Again.{HasEarlier, IsEnd, IsOtherRefusal, unset_frame};
 
 use crate::device::suite_is_valid;
 use block_codec::blocks_are_read;
+use both_ends::connect_is_taken;
 use connect_blocks::plug_controls_are_read_back;
 use controller_messages::Setup;
 use end_laws::{
@@ -28,14 +29,14 @@ use records::refusals_are_not_done;
 /// What a device does while it still has the relation of an earlier start of this controller. These are laws of the machine by which
 /// each step of a device is specified.
 pub fn device_keeps_an_earlier_relation(setup: &Setup, identity: &Identity)
-    // It refuses the Connect, and the relation is unchanged. For other activities it stores no response.
+    // It refuses the Connect, since it holds another relation, and the relation is unchanged. For other activities it stores no response.
     ensures refused { CanMeet setup.now identity.now → is_zero setup.now.plan.station.suite.address ≡ false
         → (outcomes : List Outcome) (station : Station) (live : Live) (left : ℕ) → station.identity ≡ identity.now → IsAddressed setup.now live
         → HasEarlier setup.now left live → kept_of setup.now.activity live.rest.calls ≡ None
         → AreSendable identity.now (device_step outcomes station live (request_to setup.now identity.now Connect)).sent
         → (octets : List ℕ)
         × ((device_step outcomes station live (request_to setup.now identity.now Connect)).frames ≡ octets ∷ [])
-        × IsRefusal setup.now identity.now octets
+        × IsOtherRefusal setup.now identity.now octets
         × ((device_step outcomes station live (request_to setup.now identity.now Connect)).live.values ≡ live.values)
         × ((device_step outcomes station live (request_to setup.now identity.now Connect)).live.rest.link ≡ live.rest.link)
         × ((activity : List ℕ) → (activity ≡ setup.now.activity → ⊥) → kept_of activity live.rest.calls ≡ None
@@ -81,5 +82,6 @@ pub fn device_keeps_an_earlier_relation(setup: &Setup, identity: &Identity)
     frames_are_read();
     formats_are_sound();
     blocks_are_read();
+    connect_is_taken(&setup.plan, &setup.ar);
     refusals_are_not_done();
 }

@@ -2,7 +2,7 @@
 ghost use Rattle.std.specs.List.{AllByRecursion};
 ghost use Rattle.rounds_law.specs.AnywhereAgain.{RefusesAddress, RefusesConnect, StartLaws};
 
-use crate::again::controller_ends_refused;
+use crate::again::{controller_ends_halfway, controller_ends_refused};
 use crate::controller::{controller_finds_its_device, controller_goes_on_in_time};
 use crate::device::{
     connect_answers_are_whole, device_answers_the_search, plan_is_placed, suite_is_valid,
@@ -44,6 +44,7 @@ fn start_holds<F: Flash<S>, const S: usize>(setup: &Setup, identity: &Identity)
     controller_goes_on_in_time(setup, identity);
     device_refuses_each_start(setup, identity);
     controller_ends_refused(setup, identity);
+    controller_ends_halfway(setup, identity);
     both_ends_start::<F, S>(setup, identity);
 }
 

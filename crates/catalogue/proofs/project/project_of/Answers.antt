@@ -31,6 +31,10 @@ pub returns-in_err-parameters_after_plug : goal.returns-in_err-parameters_after_
 unfolding project
 returns-in_err-parameters_after_plug c = rw c.in_ok-station.ensures (rw c.in_ok-controller.ensures (rw c.in_ok-send_clock_factor.ensures (rw c.in_ok-reduction_ratio.ensures (rw c.in_ok-data_hold_factor.ensures (rw c.in_ok-slots.ensures (rw c.in_ok-continue_on_refused_record.ensures (rw c.in_ok-release_on_refused_record.ensures (fails _ _ _ _ _ (let h = c.from_residual-in_err-parameters_after_plug.ensures in search rules) (inr c.in_err-parameters_after_plug.ensures)))))))))
 
+pub returns-in_err-persistent_start : goal.returns-in_err-persistent_start
+unfolding project
+returns-in_err-persistent_start c = rw c.in_ok-station.ensures (rw c.in_ok-controller.ensures (rw c.in_ok-send_clock_factor.ensures (rw c.in_ok-reduction_ratio.ensures (rw c.in_ok-data_hold_factor.ensures (rw c.in_ok-slots.ensures (rw c.in_ok-continue_on_refused_record.ensures (rw c.in_ok-release_on_refused_record.ensures (rw c.in_ok-parameters_after_plug.ensures (fails _ _ _ _ _ (let h = c.from_residual-in_err-persistent_start.ensures in search rules) (inr c.in_err-persistent_start.ensures))))))))))
+
 pub returns : goal.returns
 unfolding project
-returns c = rw c.in_ok-station.ensures (rw c.in_ok-controller.ensures (rw c.in_ok-send_clock_factor.ensures (rw c.in_ok-reduction_ratio.ensures (rw c.in_ok-data_hold_factor.ensures (rw c.in_ok-slots.ensures (rw c.in_ok-continue_on_refused_record.ensures (rw c.in_ok-release_on_refused_record.ensures (rw c.in_ok-parameters_after_plug.ensures refl))))))))
+returns c = rw c.in_ok-station.ensures (rw c.in_ok-controller.ensures (rw c.in_ok-send_clock_factor.ensures (rw c.in_ok-reduction_ratio.ensures (rw c.in_ok-data_hold_factor.ensures (rw c.in_ok-slots.ensures (rw c.in_ok-continue_on_refused_record.ensures (rw c.in_ok-release_on_refused_record.ensures (rw c.in_ok-parameters_after_plug.ensures (rw c.in_ok-persistent_start.ensures refl)))))))))

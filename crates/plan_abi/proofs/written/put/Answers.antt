@@ -21,4 +21,5 @@ returns-clause-filled c = record {
   patience = search rules;
   waiting_patience = search rules;
   parameters_after_plug = search rules;
+  persistent_start = search rules;
 }

@@ -1,17 +1,22 @@
 -- By the laws of what a device and a controller hear.
-use Rattle.std.proofs.Common.{◌≡◌, true, sym, subst, ◌∙◌}
+use Rattle.std.proofs.Common.{◌≡◌, true, false, sym, ap, subst, ◌∙◌}
 use Rattle.pn_values.specs.IpSuite.{is_suite}
 use Rattle.plans.specs.declared.parts.Station.{Station as Plan}
 use Rattle.pn_values.specs.declared.identity.Identity.{Identity}
+use Rattle.rpc_core.specs.declared.response.Status.{Status}
+use Rattle.connects.specs.requests.Handled.{conflict}
+use Rattle.connects.specs.requests.Request.{Request}
 use Rattle.frame_codec.specs.Calls.{calls_at}
 use Rattle.device_frames.specs.Heard.{Asks, Calls, Reported, heard_of}
 use Rattle.controller_messages.specs.declared.request.Request.TheVariants.{Address, Connect}
 use Rattle.controller_messages.specs.Requests.{address_asked, call_for}
+use Rattle.controller_core.specs.start_up.Answers.{is_state_conflict}
 use Rattle.end_laws.specs.hearing.Hearing.{comes}
+use Rattle.both_ends.specs.startup.request.Request.{request_for}
 use Rattle.both_ends.specs.startup.answer.Answer.{caller_of}
 use Rattle.rounds_law.specs.Path.{request_to}
 use Rattle.rounds_law.proofs.AgainIgnored.{HeardLaws}
-use Rattle.rounds_law.proofs.AgainKept.{refuses}
+use Rattle.rounds_law.proofs.AgainKept.{other_status, refused_other, refuses}
 use Rattle.rounds_law.proofs.AgainUnits.{earlier_last, earlier_unit, no_relation_unit}
 use Rattle.rounds_law.proofs.AskedUnits.{none_repeated}
 use Rattle.rounds_law.proofs.AgainUnset.{own_asked, unset_so}
@@ -28,7 +33,12 @@ returns-clause-refused c = λ meets some outcomes station live left same address
     let hears = c.calls_are_heard.ensures.device identity setup identity.mac call real c.stations_are_real.ensures.device
     (c.calls_can_be_sent.ensures.call setup Connect real tt tt)
     ∙ own_heard identity setup.plan.controller.mac (calls_at setup.plan.controller.address) setup.plan.station.suite.address (Calls call) in
-    refuses setup identity station live outcomes earlier.link same addressed earlier.has uncalled
+    let request = request_for setup.plan setup.ar in
+    let other = λ (e : setup.ar ≡ earlier.link.request.ar.uuid). earlier.other (sym (e ∙ ap (λ (r : Request). r.ar.uuid) earlier.request)) in
+    refuses setup identity station live (λ (s : Status). is_state_conflict s ≡ false) (conflict earlier.link.request.ar.uuid setup.ar)
+    (other_status earlier.link.request.ar.uuid setup.ar other)
+    (refused_other setup identity station live earlier.link earlier.has request (c.connect_is_taken.ensures.read meets.named))
+    outcomes same addressed uncalled
     (none_repeated live setup.activity 0 earlier.unasked) c.refusals_are_not_done.ensures
     (subst (λ (i : Identity). heard_of i (comes (request_to setup identity Connect))
     ≡ Reported (caller_of setup.plan.controller) setup.plan.station.suite.address (Calls call)) (sym same) hears)

@@ -3,6 +3,7 @@ use Rattle.std.proofs.Common.{◌≡◌, true, sym, subst, ◌∙◌}
 use Rattle.pn_values.specs.IpSuite.{is_suite}
 use Rattle.plans.specs.declared.parts.Station.{Station as Plan}
 use Rattle.pn_values.specs.declared.identity.Identity.{Identity}
+use Rattle.rpc_core.specs.declared.response.Status.{Status}
 use Rattle.frame_codec.specs.Calls.{calls_at}
 use Rattle.device_frames.specs.Heard.{Asks, Calls, Reported, heard_of}
 use Rattle.controller_messages.specs.declared.request.Request.TheVariants.{Address, Connect}
@@ -10,7 +11,7 @@ use Rattle.controller_messages.specs.Requests.{address_asked, call_for}
 use Rattle.end_laws.specs.hearing.Hearing.{comes}
 use Rattle.both_ends.specs.startup.answer.Answer.{caller_of}
 use Rattle.rounds_law.specs.Path.{request_to}
-use Rattle.rounds_law.proofs.AgainKept.{refuses}
+use Rattle.rounds_law.proofs.AgainKept.{refused_by, refuses}
 use Rattle.rounds_law.proofs.AgainUnset.{own_asked, unset_so}
 use Rattle.rounds_law.proofs.DeviceCallingSteps.{address_runs, own_heard}
 use Rattle.rounds_law.proofs.anywhere.starts.device_refuses_each_start.Goals as goal
@@ -24,10 +25,13 @@ returns-clause-connect c = λ meets some outcomes station live link same address
     let hears = c.calls_are_heard.ensures.device identity setup identity.mac call real c.stations_are_real.ensures.device
     (c.calls_can_be_sent.ensures.call setup Connect real tt tt)
     ∙ own_heard identity setup.plan.controller.mac (calls_at setup.plan.controller.address) setup.plan.station.suite.address (Calls call) in
-    refuses setup identity station live outcomes link same addressed has uncalled unasked c.refusals_are_not_done.ensures
+    let because = refused_by setup identity station live link has in
+    let refused = refuses setup identity station live (λ (s : Status). Unit {0}) because.0 tt because.1 outcomes same addressed uncalled unasked
+    c.refusals_are_not_done.ensures
     (subst (λ (i : Identity). heard_of i (comes (request_to setup identity Connect))
     ≡ Reported (caller_of setup.plan.controller) setup.plan.station.suite.address (Calls call)) (sym same) hears)
-    (address_runs setup live addressed some) sendable
+    (address_runs setup live addressed some) sendable in
+    (refused.0, refused.1, refused.2.0, refused.3, refused.4, refused.5, refused.6)
 
 pub returns-clause-address : goal.returns-clause-address
 returns-clause-address c = λ outcomes station live link same has.

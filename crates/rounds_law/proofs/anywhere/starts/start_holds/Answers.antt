@@ -21,9 +21,10 @@ returns g c = record {
   controller_unsent = c.controller_goes_on_in_time.ensures.unsent;
   device_refused = c.device_refuses_each_start.ensures.connect;
   device_unset = c.device_refuses_each_start.ensures.address;
-  controller_refused = c.controller_ends_refused.ensures.refused;
+  controller_refused = c.controller_ends_refused.ensures.denied;
   controller_unset = c.controller_ends_refused.ensures.unset;
   controller_ended = c.controller_ends_refused.ensures.unit Refused;
+  controller_releasing = c.controller_ends_halfway.ensures.releasing Refused;
   addressing = c.both_ends_start.ensures.addressing;
   connecting = c.both_ends_start.ensures.connecting;
 }
