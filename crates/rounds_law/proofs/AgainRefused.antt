@@ -10,10 +10,12 @@ use Rattle.frame_codec.specs.Sendable.{IsMac}
 use Rattle.dcp_core.specs.Request.{Asked}
 use Rattle.dcp_core.specs.Reported.{set_said}
 use Rattle.dcp_core.specs.Set.{set_bytes}
+use Rattle.rpc_core.specs.declared.response.Status.{Status}
 use Rattle.rpc_core.specs.Response.{Answered, answer_to, is_done}
 use Rattle.rpc_core.specs.Sendable.{CanBeAnswered}
 use Rattle.pn_alarms.specs.Sending.{due}
 use Rattle.plans.specs.declared.parts.Controller.{Controller}
+use Rattle.plans.specs.declared.parts.Parts.{Parts}
 use Rattle.device_frames.specs.Sent.{SetAnswer, bytes_of as device_bytes, response_frame}
 use Rattle.controller_messages.specs.declared.request.Request.{Request}
 use Rattle.controller_messages.specs.declared.request.Request.TheVariants as asks
@@ -33,7 +35,7 @@ use Rattle.end_laws.specs.hearing.Hearing.{mine_hears, mine_reported}
 use Rattle.end_laws.specs.hearing.Stations.{IsAddress, IsCaller, IsDevice, IsSetup}
 use Rattle.both_ends.specs.startup.answer.Answer.{caller_of}
 use Rattle.rounds_law.specs.Path.{Asks, controller_step}
-use Rattle.rounds_law.specs.Again.{HasEnded, IsOtherRefusal, IsRefusal, unset_frame}
+use Rattle.rounds_law.specs.Again.{HasEnded, IsRefusal, unset_frame}
 use Rattle.rounds_law.proofs.Choices.{and_false, where_not, where_so}
 use Rattle.rounds_law.proofs.ControllerCallingResponses.{is_its_answer, is_reported}
 use Rattle.rounds_law.proofs.PlaceTurns.{undue, unfollowed, without_relation}
@@ -57,6 +59,10 @@ unset_short : (setup : Setup) → length (set_bytes (address_asked setup.plan) (
 unfolding set_bytes
 unset_short setup = omega arith
 
+-- With any other status the controller sends no Release, whatever the plan says.
+pub not_held : (plan : Parts) (status : Status) → is_state_conflict status ≡ false → is_held plan status ≡ false
+not_held plan status other = ap (λ (b : Bool). plan.persistent_start && b) other ∙ and_false plan.persistent_start
+
 module _ (setup : Setup) (identity : Identity) (good : IsSetup setup) (device : IsDevice identity)
     (responses : (mine : Controller) (identity : Identity) (caller : Caller) (address : List ℕ) (answer : Answered)
     → IsDevice identity → IsCaller caller → IsAddress address → CanBeAnswered answer
@@ -77,10 +83,10 @@ module _ (setup : Setup) (identity : Identity) (good : IsSetup setup) (device : 
       (answer_to (call_for setup asks.Connect) refusal.status []) device caller_sized good.station refusal.fits
       ∙ is_reported setup.plan.controller (Responds (answer_to (call_for setup asks.Connect) refusal.status [])))
 
-  refused_turn : (live : Live) (octets : List ℕ) (refusal : IsRefusal setup identity octets) → is_state_conflict refusal.status ≡ false
+  refused_turn : (live : Live) (octets : List ℕ) (refusal : IsRefusal setup identity octets) → is_held setup.plan refusal.status ≡ false
       → live.asked ≡ Some asks.Connect
       → turn_of setup live (Frame (record { items = octets })) ≡ stays (denied refusal.status live)
-  refused_turn live octets refusal other asked =
+  refused_turn live octets refusal free asked =
       let response = answer_to (call_for setup asks.Connect) refusal.status [] in
       ap (λ (h : Heard). turned setup live h) (refusal_heard octets refusal)
       ∙ (ap (λ (a : Option Request). after_turn setup (can_begin live) (responded setup live response a)) asked
@@ -88,18 +94,18 @@ module _ (setup : Setup) (identity : Identity) (good : IsSetup setup) (device : 
       (where_so (is_answer setup asks.Connect response.header) (decided setup live response asks.Connect) (stays live) (is_its_answer setup 0)
       ∙ (where_not (is_done refusal.status) _ (undone setup live refusal.status asks.Connect) refusal.negative
       ∙ where_not (is_held setup.plan refusal.status) (released setup cause.Refused (record live { refusal = Some refusal.status })) (stays (denied refusal.status live))
-      (ap (λ (b : Bool). setup.plan.persistent_start && b) other ∙ and_false setup.plan.persistent_start)))
+      free))
       ∙ unfollowed setup (can_begin live) (stays (denied refusal.status live)) refl))
 
   pub refused : (controller : Controlling) (spare : ℕ) (octets : List ℕ) → Asks setup identity.mac Connecting asks.Connect None spare controller
-      → IsOtherRefusal setup identity octets
+      → (refusal : IsRefusal setup identity octets) → is_held setup.plan refusal.status ≡ false
       → ((controller_step controller octets).frames ≡ []) × HasEnded setup cause.Refused (controller_step controller octets).controller
   unfolding step_of
-  refused controller spare octets asking refusal =
+  refused controller spare octets asking refusal free =
       let step_is = ap (λ (s : Setup). stepped controller (turn_of s controller.live (Frame (record { items = octets })))) asking.of_setup
-      ∙ ap (stepped controller) (refused_turn controller.live octets refusal.0 refusal.1 asking.asked) in (
+      ∙ ap (stepped controller) (refused_turn controller.live octets refusal free asking.asked) in (
         ap (λ (s : Stepped). s.frames) step_is,
-        over_ended setup controller (record controller.live { refusal = Some refusal.0.status })
+        over_ended setup controller (record controller.live { refusal = Some refusal.status })
             (controller_step controller octets) asking.of_setup step_is,
       )
 

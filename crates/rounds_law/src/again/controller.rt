@@ -4,12 +4,12 @@ ghost use Rattle.controller_core.specs.declared.stored.state.State.TheVariants.{
 ghost use Rattle.controller_core.specs.declared.stored.state.Cause.{Cause};
 ghost use Rattle.controller_core.specs.declared.stored.state.Cause.TheVariants.{Refused};
 ghost use Rattle.controller_core.specs.declared.stored.event.Event.TheVariants.{Tick};
-ghost use Rattle.controller_core.specs.start_up.Answers.{is_state_conflict};
+ghost use Rattle.controller_core.specs.start_up.Answers.{is_held, is_state_conflict};
 ghost use Rattle.controller_core.specs.stored.State.{Controlling};
 ghost use Rattle.controller_core.specs.Machine.{step_of};
 ghost use Rattle.controller_messages.specs.declared.request.Request.TheVariants.{Address, Connect};
 ghost use Rattle.rounds_law.specs.Path.{Asks, controller_step};
-ghost use Rattle.rounds_law.specs.Again.{HasEnded, HasLeft, HasWaited, IsAlone, IsOtherRefusal, IsRefusal, unset_frame};
+ghost use Rattle.rounds_law.specs.Again.{HasEnded, HasLeft, HasWaited, IsAlone, IsRefusal, unset_frame};
 ghost use Rattle.rounds_law.specs.Abandoned.{EndsFor, Releases};
 
 use controller_messages::Setup;
@@ -25,9 +25,9 @@ pub fn controller_ends_refused(setup: &Setup, identity: &Identity)
     ensures informed { (controller : Controlling) (spare : ℕ) (octets : List ℕ) → Asks setup.now identity.now.mac Connecting Connect None spare controller
         → (refusal : IsRefusal setup.now identity.now octets) → setup.now.plan.persistent_start ≡ true → is_state_conflict refusal.status ≡ true
         → Releases setup.now identity.now Refused 0 (controller_step controller octets) }
-    // It sends nothing unless the response says that the device holds its relation already.
+    // It sends nothing if the plan lacks the key, or if the response says anything else.
     ensures refused { (controller : Controlling) (spare : ℕ) (octets : List ℕ) → Asks setup.now identity.now.mac Connecting Connect None spare controller
-        → IsOtherRefusal setup.now identity.now octets
+        → (refusal : IsRefusal setup.now identity.now octets) → is_held setup.now.plan refusal.status ≡ false
         → ((controller_step controller octets).frames ≡ []) × HasEnded setup.now Refused (controller_step controller octets).controller }
     // After a negative answer to the Set of the IP suite, the controller has ended.
     ensures unset { (controller : Controlling) (spare : ℕ) → Asks setup.now identity.now.mac Addressing Address None spare controller

@@ -5,6 +5,7 @@ use Rattle.rounds_law.specs.Stages.{Leads}
 use Rattle.rounds_law.proofs.AbandonedLaw.{comes_back_refused, comes_back_unanswered}
 use Rattle.rounds_law.proofs.AbandonedRounds.{DeniedLaws, HalfwayLaws}
 use Rattle.rounds_law.proofs.AgainLaw.{AgainLaws, EndedLaws, comes_back, comes_back_alone}
+use Rattle.rounds_law.proofs.AgainRefused.{not_held}
 use Rattle.rounds_law.proofs.ComesLaw.{comes_back_addressing, comes_back_connecting, comes_back_released, comes_back_stopped, comes_from}
 use Rattle.rounds_law.proofs.CompositionLaws.{Laws}
 use Rattle.rounds_law.proofs.again.law.both_ends_come_back.Goals as goal
@@ -58,7 +59,8 @@ again_next g c = record {
 
 ended_of : (g : _) (c : goal.After-device_keeps_an_earlier_relation-2 g) → EndedLaws c.args.setup.now c.args.identity.now
 ended_of g c = record {
-  refused = c.controller_ends_refused.ensures.refused;
+  refused = λ controller spare octets asking other. c.controller_ends_refused.ensures.refused controller spare octets asking other.0
+      (not_held c.args.setup.now.plan other.0.status other.1);
   unset = c.controller_ends_refused.ensures.unset;
   unit = c.controller_ends_refused.ensures.unit;
   alone = c.controller_ends_refused.ensures.alone;
