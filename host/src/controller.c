@@ -901,6 +901,7 @@ static void open_relations(struct controller *controller, const struct options *
         controller->relations[i].plan.patience = options->patience;
         controller->relations[i].plan.waiting_patience = options->waiting_patience;
         controller->relations[i].plan.release_on_refused_record = 1;
+        controller->relations[i].plan.persistent_start = 1;
         controller->relations[i].has_octets = !options->is_without_octets;
         for (unsigned k = 0; k < i; k++) {
             check_stations(&controller->relations[k], &controller->relations[i]);
