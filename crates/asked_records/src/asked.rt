@@ -129,6 +129,7 @@ impl AskedRecords {
 
     /// Before a call is asked. With `own_first`, if it is of the relation, it takes the place of a Read Implicit: that one is no
     /// longer asked, and is returned.
+    #[inline(never)]
     pub fn displace(&mut self, own_first: bool, question: &Question) -> Option<Question>
         ensures question { result ≡ displaced_by own_first question.now self.old }
         ensures state { self.new ≡ behind_displaced (displaced_by own_first question.now self.old) self.old }

@@ -167,6 +167,7 @@ impl<F: Flash<S>, const S: usize> Device<F, S> {
 
 impl Answering {
     // A call that was asked, if there is one, is refused for this reason.
+    #[inline(never)]
     fn refuse(
         &mut self,
         identity: &Identity,
@@ -218,6 +219,7 @@ impl Answering {
     }
 
     // Appends the response to a call that was asked to the outbox.
+    #[inline(never)]
     fn reply(
         &mut self,
         identity: &Identity,

@@ -662,6 +662,7 @@ impl Answering {
     }
 
     // Puts the answer to a new call into the empty outbox, and keeps it.
+    #[inline(never)]
     fn give(
         &mut self,
         identity: &Identity,
@@ -688,6 +689,7 @@ impl Answering {
     }
 
     // Puts the answer to a new call into the empty outbox.
+    #[inline(never)]
     fn send(
         &mut self,
         identity: &Identity,

@@ -208,7 +208,7 @@ fn identity_in(station: &Station) -> Identity
 }
 
 // What the application decides where the device is made.
-#[inline(never)]
+#[inline(always)]
 fn options_in(station: &Station) -> DeviceOptions
     ensures { result ≡ options_of station.now }
 {
