@@ -134,26 +134,41 @@ module _ (setup : Setup) (live : Live) where
   connected_goes blocks (Some found) = either (is_whole found) (either found.differs (releases why.ModuleDiff live refl) (related_goes blocks (chosen_of found))) rests
   connected_goes blocks None = rests
 
-  passed_goes : (number denied : ℕ) (status : Code) → Goes (past_record setup number (noted status denied live))
-  passed_goes number denied status =
-      either setup.plan.continue_on_refused_record (writes (writing_from setup.plan (number + 1)) (noted status denied live) refl (λ up. up))
+  passed_goes : (next : Request) (denied : ℕ) (status : Code) → Goes (past_record setup next (noted status denied live))
+  passed_goes next denied status =
+      either setup.plan.continue_on_refused_record (writes next (noted status denied live) refl (λ up. up))
       (either setup.plan.release_on_refused_record (releases why.Refused (noted status denied live) refl) (ends why.Refused (noted status denied live) [] refl))
 
-  outcomes_go : (number : ℕ) (outcomes : Outcomes) → Goes (after_write setup live number outcomes)
-  outcomes_go number AllWritten = writes (writing_from setup.plan (number + 1)) live refl (λ up. up)
-  outcomes_go number (Denied place status) = passed_goes number (first_of setup.plan number + place) status
-  outcomes_go number Unreadable = rests
+  outcomes_go : (number : ℕ) (next : Request) (outcomes : Outcomes) → Goes (after_write setup live number next outcomes)
+  outcomes_go number next AllWritten = writes next live refl (λ up. up)
+  outcomes_go number next (Denied place status) = passed_goes next (first_of setup.plan number + place) status
+  outcomes_go number next Unreadable = rests
 
   done_goes : (blocks : List ℕ) (request : Request) → Goes (done setup live blocks request)
   done_goes blocks asks.Identify = rests
   done_goes blocks asks.Address = rests
   done_goes blocks asks.Connect = connected_goes blocks (found_in 400 blocks nothing)
-  done_goes blocks (asks.Write number) = outcomes_go number (outcomes_of setup.plan number blocks)
+  done_goes blocks (asks.Write number) = outcomes_go number (writing_from setup.plan (number + 1)) (outcomes_of setup.plan number blocks)
+  done_goes blocks (asks.WriteAfter number tries) = outcomes_go number (writing_after setup.plan (number + 1) tries) (outcomes_of setup.plan number blocks)
   done_goes blocks asks.PrmEnd = keeps _ refl (λ up. up)
+  done_goes blocks (asks.PrmEndAfter tries) = keeps _ refl (λ up. up)
   done_goes blocks (asks.Release sequence) = keeps _ refl (λ up. up)
 
+  refused_write_goes : (status : Code) (number tries : ℕ) (next : Request) → Goes (refused_write setup live status number tries next)
+  refused_write_goes status number tries next =
+      either (is_tried setup.plan status tries) (keeps (trying (asks.WriteAfter number (tries + 1)) status live) refl (λ up. up))
+      (passed_goes next (first_of setup.plan number) status)
+
+  refused_end_goes : (status : Code) (tries : ℕ) → Goes (refused_end setup live status tries)
+  refused_end_goes status tries =
+      either (is_tried setup.plan status tries) (keeps (trying (asks.PrmEndAfter (tries + 1)) status live) refl (λ up. up))
+      (ends why.Refused (record live { refusal = Some status }) [] refl)
+
   undone_goes : (status : Code) (request : Request) → Goes (undone setup live status request)
-  undone_goes status (asks.Write number) = passed_goes number (first_of setup.plan number) status
+  undone_goes status (asks.Write number) = refused_write_goes status number 0 (writing_from setup.plan (number + 1))
+  undone_goes status (asks.WriteAfter number tries) = refused_write_goes status number tries (writing_after setup.plan (number + 1) tries)
+  undone_goes status asks.PrmEnd = refused_end_goes status 0
+  undone_goes status (asks.PrmEndAfter tries) = refused_end_goes status tries
   undone_goes status asks.Connect =
       let next : Live = record live { refusal = Some status } in either (is_held setup.plan status) (releases why.Refused next refl) (ends why.Refused next [] refl)
   undone_goes status request = ends why.Refused (record live { refusal = Some status }) [] refl

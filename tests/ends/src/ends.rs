@@ -843,12 +843,19 @@ impl Ends {
         told(&mut self.controller, &ControllerEvent::Frame(refusal))
     }
 
+    /// The calls of a second, each with its unit. Outputs are sent beside them since the Connect.
+    fn calls(&mut self) -> Vec<(u32, Bytes)> {
+        let mut sent = self.seconds(1);
+        sent.retain(|(_, frame)| frame.get(12..14) == Some([8, 0].as_slice()));
+        sent
+    }
+
     /// The call is refused as busy. The controller sends nothing, stays in its state, and sends one call with the end of the second.
     fn tries_again(&mut self, connected: &Bytes, sequence: u32, status: [u8; 4]) {
         let state = self.controller.state();
         assert_eq!(self.hears_refusal(connected, sequence, status).len(), 0);
         self.is_at(state);
-        let mut sent = self.seconds(1);
+        let mut sent = self.calls();
         assert_eq!(sent.len(), 1);
         let (unit, call) = sent.pop().expect("a call");
         assert_eq!(unit, SECOND);
@@ -869,7 +876,8 @@ impl Ends {
 // the numbers that follow.
 #[test]
 fn a_write_that_is_refused_as_busy_is_tried_again() {
-    let (mut ends, answer) = Ends::connected(Global, &with_records(true));
+    let text = with_records(true).replace(r#""PersistentStart":true,"#, r#""PersistentStart":true,"ContinueOnRefusedRecord":true,"#);
+    let (mut ends, answer) = Ends::connected(Global, &text);
     ends.is_at(State::Writing);
     is_call(&ends.sent, 3, 1);
     has_seq_number(&ends.sent, 1);
@@ -878,14 +886,16 @@ fn a_write_that_is_refused_as_busy_is_tried_again() {
         is_call(&ends.sent, 3, sequence + 1);
         has_seq_number(&ends.sent, number);
     }
-    ends.turn();
-    ends.has_status([0; 4]);
+    let sent = ends.hears_refusal(&answer, 3, [0; 4]);
+    ends.sent = one(&sent).expect("the next Write");
     ends.is_at(State::Writing);
     is_call(&ends.sent, 3, 4);
     has_seq_number(&ends.sent, 4);
     ends.tries_again(&answer, 4, BUSY_WRITE);
     is_call(&ends.sent, 3, 5);
+    // This device does not have the record, and the plan goes on.
     ends.turn();
+    ends.has_status([0xDF, 0x80, 0xB0, 0]);
     ends.is_at(State::Ending);
     is_call(&ends.sent, 4, 6);
     ends.turn();
@@ -921,7 +931,7 @@ fn a_refusal_as_busy_that_is_repeated_is_ignored() {
     for _ in 0..3 {
         assert_eq!(ends.hears_refusal(&answer, 1, BUSY_WRITE).len(), 0);
     }
-    let sent = ends.seconds(1);
+    let sent = ends.calls();
     assert_eq!(sent.len(), 1);
     is_call(&sent[0].1, 3, 2);
     let stopped = told(&mut ends.controller, &ControllerEvent::Stop);
@@ -947,7 +957,7 @@ fn a_device_that_stays_busy_ends_with_the_patience() {
             is_call(&ends.sent, operation, sequence + 1);
         }
         assert_eq!(ends.hears_refusal(&answer, 3, status).len(), 0);
-        let sent = ends.seconds(1);
+        let sent = ends.calls();
         ends.is_at(State::Ended(Cause::NoProgress));
         let (unit, release) = &sent[0];
         assert_eq!(*unit, 9);
