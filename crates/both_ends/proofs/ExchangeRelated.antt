@@ -301,7 +301,7 @@ module _ (setup : Setup) (good : IsSetup setup) where
   responded_right : (live : Live) (response : Response) (asked : Option Request) → IsLive live → IsWell setup (Responds response) → IsRight setup (responded setup live response asked)
   responded_right live response (Some request) is fit =
       either (is_answer setup request response.header) _ _
-      (λ answers. decided_right live response request is (λ connects. fit (ap (λ (one : Request). is_answer setup one response.header) (sym connects) ∙ answers)))
+      (λ answers. decided_right live response request is.asked is (λ connects. fit (ap (λ (one : Request). is_answer setup one response.header) (sym connects) ∙ answers)))
       (λ other. stays_right live is)
   responded_right live response None is fit = beside_right live response live.access.plug is
 

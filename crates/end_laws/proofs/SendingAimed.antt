@@ -48,7 +48,7 @@ use Rattle.controller_core.specs.stored.Alarms.{ack_of}
 use Rattle.end_laws.specs.hearing.Stations.{IsRecordCall, IsSetup}
 use Rattle.end_laws.specs.sending.Addressed.{IsAimed, IsAimedAt, IsDirection, IsEventFrom, IsHeardFrom}
 use Rattle.end_laws.specs.sending.Sized.{AreFew, IsAccess, IsFew, IsPlugging, IsWaiting}
-use Rattle.end_laws.proofs.SendingSizes.{BlocksAreLong, CameSo, Stays, all_append, answer_can, due_all, frame_stays, named_so, number_few, numbered, plug_answer_can, sequence_few, writing_few}
+use Rattle.end_laws.proofs.SendingSizes.{BlocksAreLong, CameSo, Stays, all_append, answer_can, due_all, frame_stays, named_so, number_few, numbered, plug_answer_can, sequence_few, writing_few, behind_few, few_so, tried_few}
 use Rattle.end_laws.proofs.SendingTurns.{answered_access, none_waits, stepped_access}
 use Rattle.end_laws.proofs.TurnsBeside.{flows as flows_so, follows}
 

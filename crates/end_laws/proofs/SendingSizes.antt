@@ -1,5 +1,5 @@
 -- The lengths of what a controller sends.
-use Rattle.std.proofs.Common.{◌≡◌, ◌≤◌, ◌<◌, ◌+◌, ◌/◌, ◌%◌, ◌&&◌, cond, nat_eq, nat_lt, ℕ, Bool, true, false, List, [], ◌∷◌, ◌++◌, length, Option, Some, None, Result, Ok, Err, if◌then◌else◌, refl, sym, ap, ◌∙◌, arith}
+use Rattle.std.proofs.Common.{◌≡◌, ◌≤◌, ◌<◌, ◌+◌, ◌/◌, ◌%◌, ◌&&◌, cond, nat_eq, nat_lt, ℕ, Bool, true, false, List, [], ◌∷◌, ◌++◌, length, Option, Some, None, Result, Ok, Err, if◌then◌else◌, refl, sym, ap, ◌∙◌, arith, subst}
 use Rattle.std.specs.List.{AllByRecursion}
 use Rattle.std.specs.Cmp.Lexicographic.{pointwise, same_text}
 use Rattle.std.proofs.lemmas.Bool.{and_parts, ltb-true}
@@ -36,8 +36,10 @@ use Rattle.controller_messages.specs.Sent.{Sent, ready_answer, ready_done}
 use Rattle.controller_messages.specs.Access.{call_number}
 use Rattle.controller_core.specs.start_up.Requests.{behind_write, next_sequence, tried_as, tries_before, write_after}
 use Rattle.controller_core.specs.Machine.{where_due}
+use Rattle.controller_core.specs.start_up.Answers.{is_busy, is_tried}
 use Rattle.end_laws.specs.turns.Turns.{Came, Hears, Passes, Gets, GetsStatus, AsksRead, AsksWrite, Halts}
 use Rattle.rpc_core.specs.Sendable.{CanBeAnswered, IsHeader}
+use Rattle.rpc_core.specs.declared.response.Status.{Status}
 use Rattle.end_laws.specs.hearing.Stations.{IsNumbered}
 use Rattle.end_laws.specs.sending.Sized.{AreFew, IsFew, IsShort}
 

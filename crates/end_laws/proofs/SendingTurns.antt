@@ -57,7 +57,7 @@ use Rattle.block_codec.specs.Writable.{IsAck}
 use Rattle.end_laws.specs.hearing.Stations.{IsRecordCall, IsSetup}
 use Rattle.end_laws.specs.sending.Messages.{CanBeSent, IsWay}
 use Rattle.end_laws.specs.sending.Sized.{AreFew, IsAccess, IsAckOrNone, IsFew, IsLive, IsNoted, IsPlugging, IsShort, IsSized, IsSizedEnd, IsSizedEvent, IsWaiting}
-use Rattle.end_laws.proofs.SendingSizes.{BlocksAreLong, CameSo, Stays, all_append, answer_can, behind_few, body_few, due_all, frame_stays, named_so, next_short, number_few, numbered, plug_answer_can, sequence_few, writing_few}
+use Rattle.end_laws.proofs.SendingSizes.{BlocksAreLong, CameSo, Stays, all_append, answer_can, behind_few, body_few, due_all, frame_stays, named_so, next_short, number_few, numbered, plug_answer_can, sequence_few, writing_few, few_so, tried_few}
 use Rattle.end_laws.proofs.TurnsBeside.{flows as flows_so, follows}
 
 -- a turn after which everything has its size

@@ -1,5 +1,5 @@
 -- A request is sent again with each 32,000th unit since it was sent, as long as it is active.
-use Rattle.std.proofs.Common.{◌≡◌, ◌⊎◌, inl, inr, ◌+◌, ◌++◌, ◌%◌, ◌==◌, ℕ, suc, Bool, true, false, List, [], ◌∷◌, Option, Some, None, refl, sym, ap, subst, ◌∙◌, arith}
+use Rattle.std.proofs.Common.{◌≡◌, ◌⊎◌, inl, inr, ◌+◌, ◌++◌, ◌%◌, ◌==◌, ℕ, suc, Bool, true, false, List, [], ◌∷◌, Option, Some, None, refl, sym, ap, subst, ◌∙◌, arith, nat_lt}
 use Rattle.std.specs.Prelude.{◌||◌, if◌then◌else◌}
 use Rattle.std.proofs.lemmas.Bool.{and_parts, eqb-true, eqb-false, false≢true}
 use Rattle.record_blocks.specs.declared.alarm_ack.AlarmAck.{AlarmAck}
@@ -19,6 +19,7 @@ use Rattle.controller_messages.specs.declared.setup.Setup.{Setup}
 use Rattle.controller_messages.specs.declared.request.Request.{Request}
 use Rattle.controller_messages.specs.declared.request.Request.TheVariants as asks
 use Rattle.controller_messages.specs.Sent.{Sent}
+use Rattle.controller_messages.specs.Requests.{write_count}
 use Rattle.controller_core.specs.declared.stored.event.Event.{Event}
 use Rattle.controller_core.specs.declared.stored.event.Event.TheVariants.{Frame, Tick, Give, Status, Read, Write, Stop}
 use Rattle.controller_core.specs.declared.stored.state.Cause.{Cause}
@@ -39,6 +40,7 @@ use Rattle.end_laws.specs.turns.Turns.{Came, IsEnd, IsKind, Kind, Passes, Rests,
 use Rattle.end_laws.proofs.TurnsBelongs.{reached_steady}
 use Rattle.end_laws.proofs.TurnsBeside.{follows, still_is, unit_begun}
 use Rattle.end_laws.proofs.TurnsOneTurn.{event_is}
+use Rattle.plans.specs.declared.parts.Parts.{Parts}
 use Rattle.end_laws.proofs.TurnsWhole.{reached_on, whole_end}
 
 -- ---- a request that stays active was not sent again

@@ -393,6 +393,8 @@ are_numbered_apart setup asks.PrmEnd asks.PrmEnd one other same = refl
 are_numbered_apart setup asks.Identify other one others same = absurd one
 are_numbered_apart setup asks.Address other one others same = absurd one
 are_numbered_apart setup (asks.Release sequence) other one others same = absurd one
+are_numbered_apart setup (asks.WriteAfter number tries) other one others same = absurd one
+are_numbered_apart setup (asks.PrmEndAfter tries) other one others same = absurd one
 are_numbered_apart setup one other one_is other_is same = absurd other_is
 
 number_is : (plan : Parts) (calls : ℕ) → write_count plan + 2 + calls < 4294967296 → call_number plan calls ≡ write_count plan + 2 + calls

@@ -52,7 +52,7 @@ use Rattle.controller_messages.specs.Heard.{Heard, Nothing, Answers, Responds, R
 use Rattle.controller_messages.specs.Heard.{Cyclic as Comes}
 use Rattle.controller_messages.specs.PlugRequests.{is_plug_answer, is_plug_ready, plug_ready_in}
 use Rattle.controller_messages.specs.RecordRequests.{most_record_octets}
-use Rattle.controller_messages.specs.Requests.{first_of, header_of, writing_from}
+use Rattle.controller_messages.specs.Requests.{first_of, header_of, writing_from, writing_after}
 use Rattle.controller_messages.specs.Sent.{Sent, bytes_of}
 use Rattle.controller_core.specs.declared.start_up.outcomes.Outcomes.{Outcomes}
 use Rattle.controller_core.specs.declared.start_up.outcomes.Outcomes.TheVariants.{AllWritten, Unreadable}
@@ -63,12 +63,12 @@ use Rattle.controller_core.specs.declared.stored.state.Cause.{Cause}
 use Rattle.controller_core.specs.declared.stored.state.Cause.TheVariants as why
 use Rattle.controller_core.specs.declared.stored.state.State.{State}
 use Rattle.controller_core.specs.declared.stored.state.State.TheVariants.{Looking, Addressing, Connecting, Writing, Ending, Waiting, Exchanging, Ended}
-use Rattle.controller_core.specs.start_up.Answers.{ident_bytes, is_addressed, is_answer, is_found, is_held, is_identify, is_ready, is_refused, is_reported, is_right, is_set_answer, is_state_conflict, ready_in}
+use Rattle.controller_core.specs.start_up.Answers.{ident_bytes, is_addressed, is_answer, is_found, is_held, is_identify, is_ready, is_refused, is_reported, is_right, is_set_answer, is_state_conflict, ready_in, is_tried}
 use Rattle.controller_core.specs.start_up.Outcomes.{is_all_written, outcomes_of}
 use Rattle.controller_core.specs.stored.Alarms.{ack_of, is_alarm, kept_alarm}
 use Rattle.controller_core.specs.stored.State.{Controlling, Live, is_limited, phase_for}
 use Rattle.controller_core.specs.stored.Cause.{cause_of}
-use Rattle.controller_core.specs.Machine.{Turn, acked_under, acking, after_turn, after_write, alarmed, answered, asking, asks_next, behind_data, beside, brings, brought, called, can_begin, can_request, connected, decided, done, end_of, ended_by, exchange_later, failed, flow_later, flowed, found as is_found_by, fresh_with, gone_on, granted, is_again, is_plug_awaited, is_spent, keeping, later, noted, noticed, over, past_record, placed, plug_called, plug_replied, quit, readied, refused, refused_beside, refused_by, rejected, related_by, released, replied, replied_by, requested, requests_of, responded, standing, stays, step_of, stopped, taken, ticked, turn_of, turned, undone, where_due, with_end, writing}
+use Rattle.controller_core.specs.Machine.{Turn, acked_under, acking, after_turn, after_write, alarmed, answered, asking, asks_next, behind_data, beside, brings, brought, called, can_begin, can_request, connected, decided, done, end_of, ended_by, exchange_later, failed, flow_later, flowed, found as is_found_by, fresh_with, gone_on, granted, is_again, is_plug_awaited, is_spent, keeping, later, noted, noticed, over, past_record, placed, plug_called, plug_replied, quit, readied, refused, refused_beside, refused_by, rejected, related_by, released, replied, replied_by, requested, requests_of, responded, standing, stays, step_of, stopped, taken, ticked, turn_of, turned, undone, where_due, with_end, writing, refused_end, refused_write, trying}
 use Rattle.controller_core.specs.start_up.Requests.{behind_write, write_after}
 use Rattle.end_laws.specs.turns.Belongs.{call_by, waiting_by}
 use Rattle.end_laws.specs.turns.Beside.{MayFollow, flow_begun}

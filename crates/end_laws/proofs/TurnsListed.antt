@@ -23,7 +23,7 @@ use Rattle.module_diff.specs.declared.changes.Affected.{Affected}
 use Rattle.controller_messages.specs.declared.request.Request.{Request}
 use Rattle.controller_messages.specs.declared.request.Request.TheVariants as asks
 use Rattle.controller_messages.specs.declared.setup.Setup.{Setup}
-use Rattle.controller_messages.specs.Requests.{write_count}
+use Rattle.controller_messages.specs.Requests.{write_count, writing_from}
 use Rattle.controller_messages.specs.Heard.{Heard, Alarms}
 use Rattle.controller_messages.specs.PlugRequests.{plug_answer}
 use Rattle.controller_messages.specs.Sent.{Sent, Agrees, Confirms}
@@ -40,6 +40,7 @@ use Rattle.end_laws.specs.turns.Turns as came
 use Rattle.end_laws.specs.turns.Turns.{Came, IsKind, Kind, turn_by, turn_for}
 use Rattle.end_laws.proofs.TurnsAlarms.{lines_taken}
 use Rattle.end_laws.proofs.TurnsBeside.{flows, follows}
+use Rattle.plans.specs.declared.parts.Parts.{Parts}
 use Rattle.end_laws.proofs.TurnsOneTurn.{turn_is}
 
 -- ---- the invariant

@@ -36,7 +36,7 @@ use Rattle.controller_messages.specs.Heard.{Heard, Nothing, Answers, Responds, R
 use Rattle.controller_messages.specs.Heard.{Cyclic as Comes}
 use Rattle.controller_messages.specs.PlugRequests.{is_plug_answer, is_plug_ready, plug_ready_in}
 use Rattle.controller_messages.specs.RecordRequests.{most_record_octets}
-use Rattle.controller_messages.specs.Requests.{first_of, writing_from}
+use Rattle.controller_messages.specs.Requests.{first_of, writing_from, writing_after}
 use Rattle.controller_messages.specs.Sent.{done as no_error}
 use Rattle.controller_core.specs.declared.stored.event.Event.{Event}
 use Rattle.controller_core.specs.declared.stored.event.Event.TheVariants.{Frame, Tick, Give, Status, Read, Write, Stop}
@@ -48,13 +48,13 @@ use Rattle.controller_core.specs.declared.stored.state.State.TheVariants.{Lookin
 use Rattle.controller_core.specs.stored.State.{Live, is_limited, phase_for}
 use Rattle.controller_messages.specs.Access.{Accessing, answered_with, is_free, is_rejected, is_reply, record_in, unplugged}
 use Rattle.controller_core.specs.stored.Alarms.{is_alarm}
-use Rattle.controller_core.specs.start_up.Answers.{is_addressed, is_answer, is_found, is_held, is_ready, is_refused, is_right, is_set_answer, is_state_conflict}
+use Rattle.controller_core.specs.start_up.Answers.{is_addressed, is_answer, is_found, is_held, is_ready, is_refused, is_right, is_set_answer, is_state_conflict, is_tried}
 use Rattle.connects.specs.answers.Connect.{Chosen, chosen_by, chosen_of, found_in, is_whole, nothing}
 use Rattle.controller_core.specs.declared.start_up.outcomes.Outcomes.{Outcomes}
 use Rattle.controller_core.specs.declared.start_up.outcomes.Outcomes.TheVariants.{AllWritten, Unreadable}
 use Rattle.controller_core.specs.declared.start_up.outcomes.Outcomes.TheVariants.{Refused as Denied}
 use Rattle.controller_core.specs.start_up.Outcomes.{are_written, is_all_written, outcomes_of}
-use Rattle.controller_core.specs.Machine.{Turn, acked_under, after_turn, after_write, answered, asks_next, begun_turn, behind_ack, beside, brings, brought, called, can_begin, can_request, connected, decided, done, failed, flowed, gone_on, granted, is_again, is_exchanging, is_plug_awaited, is_spent, handled, later, end_of, noticed, placed, plug_called, plug_rejected, plug_replied, plug_responded, plugs_by, plugs_of, quit, readied, past_record, refused, refused_beside, refused_by, rejected, related_by, replied, replied_by, request_for, requested, requests_of, responded, standing, stays, stopped, turn_of, turned, undone, noted, where_due, with_end, writing, written}
+use Rattle.controller_core.specs.Machine.{Turn, acked_under, after_turn, after_write, answered, asks_next, begun_turn, behind_ack, beside, brings, brought, called, can_begin, can_request, connected, decided, done, failed, flowed, gone_on, granted, is_again, is_exchanging, is_plug_awaited, is_spent, handled, later, end_of, noticed, placed, plug_called, plug_rejected, plug_replied, plug_responded, plugs_by, plugs_of, quit, readied, past_record, refused, refused_beside, refused_by, rejected, related_by, replied, replied_by, request_for, requested, requests_of, responded, standing, stays, stopped, turn_of, turned, undone, noted, where_due, with_end, writing, written, trying, refused_end, refused_write}
 use Rattle.controller_core.specs.start_up.Answers.{ready_in}
 use Rattle.controller_core.specs.start_up.Requests.{behind_write, end_after, tried_as, tries_before, write_after}
 use Rattle.end_laws.specs.turns.Beside.{flow_begun}

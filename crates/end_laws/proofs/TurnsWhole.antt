@@ -33,7 +33,7 @@ use Rattle.end_laws.specs.turns.Ended.{HasEnded, may_release}
 use Rattle.end_laws.specs.turns.Runs.{IsReached, behind_all}
 use Rattle.end_laws.specs.turns.Turns.{Came, IsEnd, IsKind, IsReported, Kind, Rests, Connects, Addresses, Ends, Releases, Relates, Writes, Skips, Tries, Waits, Forgets, Begins, Repeats, Follows, Takes, IsAcked, Gives, GivesStatus, Asks, IsReplied, IsPlugAnswered, IsPlugReadied, Flows, Breaks, Idles, came_by, turn_by}
 use Rattle.end_laws.proofs.TurnsBeside.{flows, follows}
-use Rattle.end_laws.proofs.TurnsOneTurn.{event_is, is_over, not_over}
+use Rattle.end_laws.proofs.TurnsOneTurn.{event_is, is_over, not_over, unreported, tried_going}
 
 -- After a turn the controller has not ended, or its end is complete.
 pub record Kept (plan : Parts) (turn : Turn) : Type 0 where
