@@ -298,13 +298,13 @@ module _ (setup : Setup) (good : IsSetup setup) where
       (λ answers. (now, plugs_right after.device after.access.plug now.device now.access.1)) (λ other. stays_right live is)
   beside_right live response None is = stays_right (replied setup live response live.access.waiting) (replied_live live response live.access.waiting is)
 
-  responded_right : (live : Live) (response : Response) (asked : Option Request) → IsLive live → IsWell setup (Responds response) → IsRight setup (responded setup live response asked)
-  responded_right live response (Some request) is fit =
+  responded_right : (live : Live) (response : Response) (asked : Option Request) → AreFew asked → IsLive live → IsWell setup (Responds response) → IsRight setup (responded setup live response asked)
+  responded_right live response (Some request) few is fit =
       either (is_answer setup request response.header) _ _
-      (λ answers. decided_right live response request is.asked is (λ connects. fit (ap (λ (one : Request). is_answer setup one response.header) (sym connects) ∙ answers)))
+      (λ answers. decided_right live response request few is (λ connects. fit (ap (λ (one : Request). is_answer setup one response.header) (sym connects) ∙ answers)))
       (λ other. stays_right live is)
-  responded_right live response None is fit = beside_right live response live.access.plug is
+  responded_right live response None few is fit = beside_right live response live.access.plug is
 
   -- the turn of a response, and that of a place which may begin then
   pub response_right : (live : Live) (response : Response) → IsLive live → IsWell setup (Responds response) → IsRight setup (turned setup live (Responds response))
-  response_right live response is fit = after_right (can_begin live) (responded setup live response live.asked) (responded_right live response live.asked is fit)
+  response_right live response is fit = after_right (can_begin live) (responded setup live response live.asked) (responded_right live response live.asked is.asked is fit)
