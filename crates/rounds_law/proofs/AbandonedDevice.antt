@@ -62,6 +62,7 @@ use Rattle.rounds_law.proofs.AgainVain.{Keeps}
 use Rattle.rounds_law.proofs.AskedUnits.{unasked_new}
 use Rattle.rounds_law.proofs.DeviceCallingSteps.{kept_first, later_new, step_is}
 use Rattle.rounds_law.proofs.Choices.{where_not}
+use Rattle.rounds_law.proofs.NeverBusy.{never_busy}
 
 -- ---- no relation is named
 
@@ -298,6 +299,7 @@ module _ (setup : Setup) (identity : Identity) (outcomes : List Outcome) (statio
         denial = record {
           status = status_of operation refusal.why;
           negative = negative operation refusal.why;
+          ready = never_busy operation refusal.why;
           fits = (subst (λ (messages : List Sent). AreSendable identity messages)
               (ap (λ (step : Stepped). step.sent) stepped ∙ ap (λ (s : Sent). s ∷ []) message) sendable).0.1;
           frame = ap (λ (s : Sent). bytes_of station.identity s) message ∙ ap (λ (i : Identity). bytes_of i here) same;
