@@ -54,7 +54,9 @@ is_control = refl
 -- What is asked for with a request that is a call.
 abbrev pub which_of : Request → Operation
 which_of (asks.Write number) = Write
+which_of (asks.WriteAfter number tries) = Write
 which_of asks.PrmEnd = Control
+which_of (asks.PrmEndAfter tries) = Control
 which_of (asks.Release sequence) = Release
 which_of request = Connect
 
@@ -63,7 +65,9 @@ which_is setup asks.Identify called = absurd called
 which_is setup asks.Address called = absurd called
 which_is setup asks.Connect called = is_connect
 which_is setup (asks.Write number) called = is_write
+which_is setup (asks.WriteAfter number tries) called = is_write
 which_is setup asks.PrmEnd called = is_control
+which_is setup (asks.PrmEndAfter tries) called = is_control
 which_is setup (asks.Release sequence) called = is_release
 
 -- What is asked for with a request after a plug.
