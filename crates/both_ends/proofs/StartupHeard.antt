@@ -638,10 +638,10 @@ module _ (so : HeardSo) (setup : Setup) (station : Station) (good : IsSetup setu
   multicast_six = refl
 
   -- a record that is written now is one of the plan
-  is_listed : (now : small.Controller) (number : ℕ) → CallsWhile (write_count setup.plan) now (number + 1) (small.Writes number) → number < write_count setup.plan
-  is_listed now number (inl releases) = absurd cc
-  is_listed now number (inr (inl asked)) = asked.1.0
-  is_listed now number (inr (inr accesses)) = absurd (not_access number accesses.0)
+  is_listed : (now : small.Controller) (sequence number : ℕ) → CallsWhile (write_count setup.plan) now sequence (small.Writes number) → number < write_count setup.plan
+  is_listed now sequence number (inl releases) = absurd cc
+  is_listed now sequence number (inr (inl asked)) = asked.1.0
+  is_listed now sequence number (inr (inr accesses)) = absurd (not_access number accesses.0)
     where
       not_access : (n : ℕ) → small.Writes n ≡ small.Accesses → ⊥
       not_access n e = cc
@@ -655,10 +655,10 @@ module _ (so : HeardSo) (setup : Setup) (station : Station) (good : IsSetup setu
   message_reported now (said.Requests to asks.Identify) aimed says = data_reported identify_multicast None _ _ small.Idle multicast_six tt
   message_reported now (said.Requests to asks.Address) aimed says = data_reported to None _ _ small.Idle aimed.0 tt
   message_reported now (said.Requests to asks.Connect) aimed says = call_reported to asks.Connect aimed.0 tt tt tt
-  message_reported now (said.Requests to (asks.Write number)) aimed says = call_reported to (asks.Write number) aimed.0 tt aimed.1 (is_listed now number says)
+  message_reported now (said.Requests to (asks.Write number)) aimed says = call_reported to (asks.Write number) aimed.0 tt aimed.1 (is_listed now (number + 1) number says)
   message_reported now (said.Requests to asks.PrmEnd) aimed says = call_reported to asks.PrmEnd aimed.0 tt tt tt
   message_reported now (said.Requests to (asks.PrmEndAfter tries)) aimed says = call_reported to (asks.PrmEndAfter tries) aimed.0 tt aimed.1 tt
-  message_reported now (said.Requests to (asks.WriteAfter number tries)) aimed says = call_reported to (asks.WriteAfter number tries) aimed.0 tt aimed.1 ?
+  message_reported now (said.Requests to (asks.WriteAfter number tries)) aimed says = call_reported to (asks.WriteAfter number tries) aimed.0 tt aimed.1 (is_listed now (number + tries + 1) number says)
   message_reported now (said.Requests to (asks.Release sequence)) aimed says = call_reported to (asks.Release sequence) aimed.0 tt aimed.1 tt
   message_reported now (said.Accesses to request octets) aimed says = access_reported to request octets aimed.0 aimed.1
   message_reported now (said.Parametrizes to request) aimed says = plugged_reported to request aimed.0 aimed.1
