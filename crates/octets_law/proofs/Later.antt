@@ -192,7 +192,7 @@ behind_can : (identity : Identity) (sent behind : List Sent) → AreSendable ide
 behind_can identity [] behind can = can
 behind_can identity (message ∷ sent) behind can = behind_can identity sent behind can.1
 
--- The response to a call, and frames after it that are none.
+-- The response to a call, and frames after it that are no responses.
 answer_later : (options : DeviceOptions) (identity : Identity) (caller : Caller) (address : List ℕ) (answer : Answered) (behind : List Sent) (calls : List Kept)
     (which : Operation) → operation_of answer.header.operation ≡ Some which → AreSendable identity (CallAnswer caller address answer ∷ behind)
     → AllByRecursion IsNoResponse behind
