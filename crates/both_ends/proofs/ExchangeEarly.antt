@@ -41,9 +41,10 @@ use Rattle.end_laws.specs.both.Small as small
 use Rattle.end_laws.specs.both.Small.{ToDevice}
 use Rattle.end_laws.specs.controller.Small.{readied_by, said_to}
 use Rattle.end_laws.specs.turns.Beside.{flow_begun}
-use Rattle.end_laws.specs.turns.Turns.{Came, Hears, Passes, Gets, GetsStatus, AsksRead, AsksWrite, Halts, IsKind, IsReadied, Kind, Rests, Connects, Addresses, Ends, Releases, Relates, Writes, Skips, Waits, Forgets, Begins, Repeats, Follows, Takes, IsAcked, Asks, IsReplied, IsPlugAnswered, IsPlugReadied, Gives, GivesStatus, Flows, Breaks, Idles, came_by, turn_by}
+use Rattle.end_laws.specs.turns.Turns.{Came, Hears, Passes, Gets, GetsStatus, AsksRead, AsksWrite, Halts, IsKind, IsReadied, Kind, Rests, Connects, Addresses, Ends, Releases, Relates, Writes, Skips, Tries, Waits, Forgets, Begins, Repeats, Follows, Takes, IsAcked, Asks, IsReplied, IsPlugAnswered, IsPlugReadied, Gives, GivesStatus, Flows, Breaks, Idles, came_by, turn_by}
 use Rattle.both_ends.specs.startup.View.{IsSaidAs, rules_of, says_to_device}
 use Rattle.both_ends.proofs.ExchangeLists.{each_behind, none_some, some_is}
+use Rattle.controller_core.specs.start_up.Requests.{behind_write}
 use Rattle.both_ends.proofs.ExchangeOutputsTurns.{KindsSo}
 
 -- ---- what is early
@@ -92,6 +93,8 @@ written_phase asks.Connect = refl
 written_phase (asks.Write number) = refl
 written_phase asks.PrmEnd = refl
 written_phase (asks.Release sequence) = refl
+written_phase (asks.WriteAfter number tries) = refl
+written_phase (asks.PrmEndAfter tries) = refl
 
 with_end_early : (live : Live) (priority : Priority) (end : ControllerEnd) → IsEarlyAt live → IsEarlyAt (with_end live priority end)
 with_end_early live High end is = record { phase = is.phase; waiting = is.waiting; plug = is.plug }
@@ -202,9 +205,10 @@ module _ (setup : Setup) (live : Live) (came : Came) (is : IsEarlyAt live) (unre
   kind_early (Ends why refusal refused units) holds = record { live = record { phase = refl; waiting = refl; plug = refl }; sent = tt }
   kind_early (Releases why refusal refused units) holds = record { live = record { phase = refl; waiting = refl; plug = refl }; sent = (tt, tt) }
   kind_early (Relates places chosen) holds = record { live = record { phase = written_phase (writing_from setup.plan 0); waiting = is.waiting; plug = is.plug }; sent = (tt, tt) }
-  kind_early (Writes number) holds = record { live = record { phase = written_phase (writing_from setup.plan (number + 1)); waiting = is.waiting; plug = is.plug }; sent = (tt, tt) }
-  kind_early (Skips number refused status) holds = record { live = record { phase = written_phase (writing_from setup.plan (number + 1)); waiting = is.waiting; plug = is.plug }; sent = (tt, tt) }
-  kind_early Waits holds = record { live = record { phase = refl; waiting = is.waiting; plug = is.plug }; sent = tt }
+  kind_early (Tries next status) holds = record { live = record { phase = is.phase; waiting = is.waiting; plug = is.plug }; sent = tt }
+  kind_early (Writes number tries) holds = record { live = record { phase = written_phase (behind_write setup.plan number tries); waiting = is.waiting; plug = is.plug }; sent = (tt, tt) }
+  kind_early (Skips number tries refused status) holds = record { live = record { phase = written_phase (behind_write setup.plan number tries); waiting = is.waiting; plug = is.plug }; sent = (tt, tt) }
+  kind_early (Waits tries) holds = record { live = record { phase = refl; waiting = is.waiting; plug = is.plug }; sent = tt }
   kind_early Forgets holds = record { live = record { phase = is.phase; waiting = is.waiting; plug = is.plug }; sent = tt }
   kind_early (Begins caller call block) holds = absurd (readies caller call block holds.1)
   kind_early (Repeats caller call block) holds = absurd (exchanges_not holds.0)
@@ -256,6 +260,8 @@ said_no_access setup (said.Requests device asks.Connect) sequence none e = absur
 said_no_access setup (said.Requests device (asks.Write number)) sequence none e = absurd cc
 said_no_access setup (said.Requests device asks.PrmEnd) sequence none e = absurd cc
 said_no_access setup (said.Requests device (asks.Release number)) sequence none e = absurd cc
+said_no_access setup (said.Requests device (asks.WriteAfter number tries)) sequence none e = absurd cc
+said_no_access setup (said.Requests device (asks.PrmEndAfter tries)) sequence none e = absurd cc
 said_no_access setup other sequence none e = absurd cc
 
 message_early : (setup : Setup) (station : Station) (message : said.Sent) → IsNoAccess message → IsSaidAs setup station message → IsEarlyFrame setup station (said.bytes_of setup message)

@@ -477,6 +477,8 @@ module _ (so : HearsSo) (setup : Setup) (identity : Identity) where
     request_reported to (asks.Write number) mac numbered aimed = call_reported to (asks.Write number) mac tt numbered
     request_reported to asks.PrmEnd mac numbered aimed = call_reported to asks.PrmEnd mac tt numbered
     request_reported to (asks.Release sequence) mac numbered aimed = call_reported to (asks.Release sequence) mac tt numbered
+    request_reported to (asks.WriteAfter number tries) mac numbered aimed = call_reported to (asks.WriteAfter number tries) mac tt numbered
+    request_reported to (asks.PrmEndAfter tries) mac numbered aimed = call_reported to (asks.PrmEndAfter tries) mac tt numbered
 
     reply_reported : (route : Route) (priority : Priority) (header : Header) → IsMac route.partner → route.alarm_tag < 65536 → (route.partner ≡ mine.mac → ⊥) → (header.kind ≡ pdu.Ack) ⊎ (header.kind ≡ pdu.Nack) → IsHeader header
         → IsReportedBy setup identity (said.bytes_of setup (said.Replies route priority header)) (reported_reply priority header.ack_number header.kind)

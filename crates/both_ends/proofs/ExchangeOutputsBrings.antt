@@ -350,6 +350,8 @@ module _ (options : DeviceOptions) (setup : Setup) (identity : Identity) where
     request_silent device (asks.Write number) one = call_silent device (call_for setup (asks.Write number)) one
     request_silent device asks.PrmEnd one = call_silent device (call_for setup asks.PrmEnd) one
     request_silent device (asks.Release sequence) one = call_silent device (call_for setup (asks.Release sequence)) one
+    request_silent device (asks.WriteAfter number tries) one = call_silent device (call_for setup (asks.WriteAfter number tries)) one
+    request_silent device (asks.PrmEndAfter tries) one = call_silent device (call_for setup (asks.PrmEndAfter tries)) one
 
     alarm_silent : (route : Route) (priority : Priority) (said : Said) → IsWay route → BringsNone rules (alarm_frame setup route priority said)
     alarm_silent route priority said way =

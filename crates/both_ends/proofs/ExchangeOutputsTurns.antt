@@ -48,11 +48,11 @@ use Rattle.controller_core.specs.stored.Alarms.{ack_of, kept_alarm}
 use Rattle.connects.specs.answers.Connect.{Chosen}
 use Rattle.controller_messages.specs.Requests.{writing_from}
 use Rattle.controller_core.specs.Machine.{Turn, accesses_by, acking, acks_in, acks_of, after_turn, asking, asks_next, begun_turn, can_begin, exchange_later, later, plug_readied, plugs_by, plugs_of, behind_ack, behind_data, brought, confirming, diagnosing, end_of, keeping, pending_by, pending_of, with_end, flowed, given, is_again, noted, over, rated, readied, standing, writing, released, requests_of, stays, taken, turn_of, where_due}
-use Rattle.controller_core.specs.start_up.Requests.{next_sequence}
+use Rattle.controller_core.specs.start_up.Requests.{next_sequence, behind_write}
 use Rattle.controller_core.specs.stored.State.{phase_for}
 use Rattle.controller_core.specs.stored.State.{Live}
 use Rattle.end_laws.specs.turns.Beside.{flow_begun}
-use Rattle.end_laws.specs.turns.Turns.{Came, Hears, Passes, Gets, GetsStatus, AsksRead, AsksWrite, Halts, IsKind, IsReadied, IsSought, IsTurn, Kind, Rests, Connects, Addresses, Releases, Relates, Writes, Skips, Waits, Forgets, Begins, Repeats, Follows, Takes, IsAcked, Asks, IsReplied, IsPlugAnswered, IsPlugReadied, Gives, GivesStatus, Flows, Breaks, Idles, came_by, turn_by}
+use Rattle.end_laws.specs.turns.Turns.{Came, Hears, Passes, Gets, GetsStatus, AsksRead, AsksWrite, Halts, IsKind, IsReadied, IsSought, IsTurn, Kind, Rests, Connects, Addresses, Releases, Relates, Writes, Skips, Tries, Waits, Forgets, Begins, Repeats, Follows, Takes, IsAcked, Asks, IsReplied, IsPlugAnswered, IsPlugReadied, Gives, GivesStatus, Flows, Breaks, Idles, came_by, turn_by}
 use Rattle.end_laws.specs.turns.Turns as sort
 use Rattle.both_ends.proofs.ExchangeOutputsBrings.{IsAddressed, IsNow, IsWay}
 use Rattle.both_ends.proofs.ExchangeOutputsMoves.{Sets, sets_of}
@@ -320,9 +320,10 @@ module _ (size : ℕ) where
     kind_tells (Releases why refusal refused units) holds =
         released_tells setup why (record live { refusal = refusal; refused_record = refused; units = units }) (record { device = k.device; way = k.way; size = k.size })
     kind_tells (Relates places chosen) holds = related_tells setup (record live { places = places }) chosen (record { device = k.device; way = k.way; size = k.size })
-    kind_tells (Writes number) holds = let next = writing_from setup.plan (number + 1) in asking_tells setup (phase_for next) next live k
-    kind_tells (Skips number refused status) holds =
-        let next = writing_from setup.plan (number + 1) in
+    kind_tells (Writes number tries) holds = let next = behind_write setup.plan number tries in asking_tells setup (phase_for next) next live k
+    kind_tells (Tries next status) holds = record { reported = tt; kept = record { device = k.device; way = k.way; size = k.size }; same = refl }
+    kind_tells (Skips number tries refused status) holds =
+        let next = behind_write setup.plan number tries in
         asking_tells setup (phase_for next) next (noted status refused live) (record { device = k.device; way = k.way; size = k.size })
     kind_tells (Begins caller call block) holds = record { reported = ((tt, readied_tells caller call block holds.1), tt); kept = k; same = refl }
     kind_tells (Repeats caller call block) holds = record { reported = ((tt, readied_tells caller call block holds.1), tt); kept = k; same = refl }

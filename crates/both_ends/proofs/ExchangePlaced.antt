@@ -56,13 +56,13 @@ use Rattle.controller_core.specs.declared.stored.state.State.{State}
 use Rattle.controller_core.specs.declared.stored.state.State.TheVariants.{Looking, Addressing, Ending, Waiting, Exchanging, Ended}
 use Rattle.controller_messages.specs.Access.{Accessing, is_rejected, is_reply, record_in}
 use Rattle.controller_core.specs.stored.Alarms.{ack_of, is_alarm as is_of_relation, kept_alarm}
-use Rattle.controller_core.specs.start_up.Answers.{is_addressed, is_answer, is_found, is_held, is_ready, is_refused, is_right, is_set_answer}
+use Rattle.controller_core.specs.start_up.Answers.{is_addressed, is_answer, is_found, is_held, is_ready, is_refused, is_right, is_set_answer, is_tried}
 use Rattle.connects.specs.answers.Connect.{Chosen, chosen_of, found_in, is_whole, nothing}
 use Rattle.controller_core.specs.declared.start_up.outcomes.Outcomes.{Outcomes}
 use Rattle.controller_core.specs.declared.start_up.outcomes.Outcomes.TheVariants.{AllWritten, Unreadable}
 use Rattle.controller_core.specs.declared.start_up.outcomes.Outcomes.TheVariants.{Refused as Denied}
 use Rattle.controller_core.specs.start_up.Outcomes.{outcomes_of}
-use Rattle.controller_core.specs.Machine.{Turn, accesses_by, accesses_of, accessing, acked_under, acking, acks_in, acks_of, addressed, after_turn, after_write, alarmed, answered, asks_next, begun_turn, behind_ack, behind_data, beside, beside_of, brings, brought, called, can_begin, can_request, come, confirming, connected, decided, denied, diagnosing, done, end_of, exchange_later, failed, first, flowed, found, given, gone_on, granted, handled, is_again, is_plug_awaited, is_spent, keeping, later, noted, noticed, outputs_of, over, past_record, pending_by, pending_of, plug_called, plug_readied, plug_rejected, plug_replied, plugs_by, plugs_of, quit, rated, readied, refused, refused_beside, refused_by, rejected, related_by, released, replied, replied_by, requested, requests_of, responded, standing, stays, taken, turn_due, turn_of, turned, undone, where_due, with_end, writing}
+use Rattle.controller_core.specs.Machine.{Turn, accesses_by, accesses_of, accessing, acked_under, acking, acks_in, acks_of, addressed, after_turn, after_write, alarmed, answered, asks_next, begun_turn, behind_ack, behind_data, beside, beside_of, brings, brought, called, can_begin, can_request, come, confirming, connected, decided, denied, diagnosing, done, end_of, exchange_later, failed, first, flowed, found, given, gone_on, granted, handled, is_again, is_plug_awaited, is_spent, keeping, later, noted, noticed, outputs_of, over, past_record, pending_by, pending_of, plug_called, plug_readied, plug_rejected, plug_replied, plugs_by, plugs_of, quit, rated, readied, refused, refused_beside, refused_by, rejected, related_by, released, replied, replied_by, requested, requests_of, responded, standing, stays, taken, turn_due, turn_of, turned, undone, where_due, with_end, writing, trying, waits_from}
 use Rattle.controller_core.specs.Machine.{placed as told_of}
 use Rattle.controller_core.specs.start_up.Answers.{ready_in}
 use Rattle.controller_core.specs.stored.State.{Live}
@@ -72,6 +72,7 @@ use Rattle.both_ends.proofs.ExchangeReported.{IsWell}
 use Rattle.both_ends.proofs.ExchangeLists.{each_behind}
 use Rattle.both_ends.proofs.ExchangeTurns.{frame_route}
 use Rattle.both_ends.proofs.ExchangeMessages.{IsAimed}
+use Rattle.controller_core.specs.start_up.Requests.{behind_write}
 use Rattle.both_ends.proofs.ExchangePlugs.{IsAside, due_aside, readied_aside, rejected_aside, replied_aside, turn_aside}
 
 -- The state of a controller, as far as its frames are concerned: its relation is with this station, under a FrameID of
@@ -144,6 +145,16 @@ module _ (setup : Setup) (mac : Mac) (apart : mac ≡ setup.plan.controller.mac 
   writes_placed live number true p = record { live = record { plain = p.plain; partner = p.partner; asking = λ e. absurd cc; giving = λ e. absurd cc; addressing = λ e. absurd cc }; sent = (tt, tt) }
   writes_placed live number false p = record { live = record { plain = p.plain; partner = p.partner; asking = λ e. absurd cc; giving = λ e. absurd cc; addressing = λ e. absurd cc }; sent = (tt, tt) }
 
+  rewrites_placed : (live : Live) (number tries : ℕ) (b : Bool) → IsPlaced mac live
+      → PlacedTurn (writing setup (cond b (asks.WriteAfter number tries) (asks.PrmEndAfter tries)) live)
+  rewrites_placed live number tries true p = record { live = record { plain = p.plain; partner = p.partner; asking = λ e. absurd cc; giving = λ e. absurd cc; addressing = λ e. absurd cc }; sent = (tt, tt) }
+  rewrites_placed live number tries false p = record { live = record { plain = p.plain; partner = p.partner; asking = λ e. absurd cc; giving = λ e. absurd cc; addressing = λ e. absurd cc }; sent = (tt, tt) }
+
+  -- the request that follows a Write
+  behind_placed : (live : Live) (number : ℕ) (tries : Option ℕ) → IsPlaced mac live → PlacedTurn (writing setup (behind_write setup.plan number tries) live)
+  behind_placed live number None p = writes_placed live (number + 1) (nat_lt (number + 1) (write_count setup.plan)) p
+  behind_placed live number (Some tries) p = rewrites_placed live (number + 1) tries (nat_lt (number + 1) (write_count setup.plan)) p
+
   related_placed : (live : Live) (found_so : Option Chosen) → live.device ≡ mac → ((chosen : Chosen) → found_so ≡ Some chosen → is_alarm chosen.frame_id ≡ false) → IsPlaced mac live → PlacedTurn (related_by setup live found_so)
   related_placed live (Some chosen) is plain p =
       writes_placed (standing setup live chosen) 0 (nat_lt 0 (write_count setup.plan))
@@ -171,32 +182,56 @@ module _ (setup : Setup) (mac : Mac) (apart : mac ≡ setup.plan.controller.mac 
   noted_placed status number live p = record { plain = p.plain; partner = p.partner; asking = p.asking; giving = p.giving; addressing = p.addressing }
 
   -- a record is refused: the next Write, or the end
-  passed_placed : (live : Live) (number refused : ℕ) (status : Status) → IsPlaced mac live → PlacedTurn (past_record setup number (noted status refused live))
-  passed_placed live number refused status p =
+  passed_placed : (live : Live) (number : ℕ) (tries : Option ℕ) (refused : ℕ) (status : Status) → IsPlaced mac live
+      → PlacedTurn (past_record setup (behind_write setup.plan number tries) (noted status refused live))
+  passed_placed live number tries refused status p =
       either setup.plan.continue_on_refused_record _ _
-      (writes_placed (noted status refused live) (number + 1) (nat_lt (number + 1) (write_count setup.plan)) (noted_placed status refused live p))
+      (behind_placed (noted status refused live) number tries (noted_placed status refused live p))
       (either setup.plan.release_on_refused_record _ _
       (released_placed _ (noted status refused live) (noted_placed status refused live p))
       (ends_placed _ (noted status refused live) (noted_placed status refused live p)))
 
-  wrote_placed : (live : Live) (number : ℕ) (outcomes : Outcomes) → IsPlaced mac live → PlacedTurn (after_write setup live number outcomes)
-  wrote_placed live number AllWritten p = writes_placed live (number + 1) (nat_lt (number + 1) (write_count setup.plan)) p
-  wrote_placed live number (Denied place status) p = passed_placed live number (first_of setup.plan number + place) status p
-  wrote_placed live number Unreadable p = stays_placed live p
+  wrote_placed : (live : Live) (number : ℕ) (tries : Option ℕ) (outcomes : Outcomes) → IsPlaced mac live
+      → PlacedTurn (after_write setup live number (behind_write setup.plan number tries) outcomes)
+  wrote_placed live number tries AllWritten p = behind_placed live number tries p
+  wrote_placed live number tries (Denied place status) p = passed_placed live number tries (first_of setup.plan number + place) status p
+  wrote_placed live number tries Unreadable p = stays_placed live p
+
+  -- a Write, or PrmEnd, that is refused as busy is tried again
+  waits_placed : (live : Live) → IsPlaced mac live → PlacedTurn (stays (waits_from setup live))
+  waits_placed live p =
+      stays_placed (waits_from setup live)
+      (record { plain = p.plain; partner = p.partner; asking = λ e. absurd cc; giving = λ e. absurd cc; addressing = λ e. absurd cc })
+
+  rewriting_placed : (live : Live) (status : Status) (number tries : ℕ) → IsPlaced mac live → PlacedTurn (trying (asks.WriteAfter number tries) status live)
+  rewriting_placed live status number tries p =
+      record { live = record { plain = p.plain; partner = p.partner; asking = λ e. absurd cc; giving = p.giving; addressing = λ e. absurd cc }; sent = tt }
+
+  reending_placed : (live : Live) (status : Status) (tries : ℕ) → IsPlaced mac live → PlacedTurn (trying (asks.PrmEndAfter tries) status live)
+  reending_placed live status tries p =
+      record { live = record { plain = p.plain; partner = p.partner; asking = λ e. absurd cc; giving = p.giving; addressing = λ e. absurd cc }; sent = tt }
 
   done_placed : (live : Live) (blocks : List ℕ) (request : Request) → live.asked ≡ Some request → (request ≡ asks.Connect → IsChosenWell blocks) → IsPlaced mac live
       → PlacedTurn (done setup live blocks request)
   done_placed live blocks asks.Identify now well p = stays_placed live p
   done_placed live blocks asks.Address now well p = stays_placed live p
   done_placed live blocks asks.Connect now well p = connected_placed live blocks (found_in 400 blocks nothing) refl (p.asking now) (well refl) p
-  done_placed live blocks (asks.Write number) now well p = wrote_placed live number (outcomes_of setup.plan number blocks) p
-  done_placed live blocks asks.PrmEnd now well p =
-      stays_placed (record live { phase = Waiting; asked = None; left = setup.options.waiting_patience }) (record { plain = p.plain; partner = p.partner; asking = λ e. absurd cc; giving = λ e. absurd cc; addressing = λ e. absurd cc })
+  done_placed live blocks (asks.Write number) now well p = wrote_placed live number None (outcomes_of setup.plan number blocks) p
+  done_placed live blocks (asks.WriteAfter number tries) now well p = wrote_placed live number (Some tries) (outcomes_of setup.plan number blocks) p
+  done_placed live blocks asks.PrmEnd now well p = waits_placed live p
+  done_placed live blocks (asks.PrmEndAfter tries) now well p = waits_placed live p
   done_placed live blocks (asks.Release sequence) now well p =
       stays_placed (record live { asked = None }) (record { plain = p.plain; partner = p.partner; asking = λ e. absurd cc; giving = p.giving; addressing = λ e. absurd cc })
 
   undone_placed : (live : Live) (status : Status) (request : Request) → IsPlaced mac live → PlacedTurn (undone setup live status request)
-  undone_placed live status (asks.Write number) p = passed_placed live number (first_of setup.plan number) status p
+  undone_placed live status (asks.Write number) p =
+      either (is_tried setup.plan status 0) _ _ (rewriting_placed live status number 1 p) (passed_placed live number None (first_of setup.plan number) status p)
+  undone_placed live status (asks.WriteAfter number tries) p =
+      either (is_tried setup.plan status tries) _ _ (rewriting_placed live status number (tries + 1) p)
+      (passed_placed live number (Some tries) (first_of setup.plan number) status p)
+  undone_placed live status asks.PrmEnd p = either (is_tried setup.plan status 0) _ _ (reending_placed live status 1 p) (denied_placed status live p)
+  undone_placed live status (asks.PrmEndAfter tries) p =
+      either (is_tried setup.plan status tries) _ _ (reending_placed live status (tries + 1) p) (denied_placed status live p)
   undone_placed live status asks.Connect p =
       let next : Live = record live { refusal = Some status } in
       either (is_held setup.plan status) _ _
@@ -216,6 +251,8 @@ module _ (setup : Setup) (mac : Mac) (apart : mac ≡ setup.plan.controller.mac 
   decided_placed live response asks.Connect now well p = handled_placed live response asks.Connect now well p
   decided_placed live response (asks.Write number) now well p = handled_placed live response (asks.Write number) now well p
   decided_placed live response asks.PrmEnd now well p = handled_placed live response asks.PrmEnd now well p
+  decided_placed live response (asks.WriteAfter number tries) now well p = handled_placed live response (asks.WriteAfter number tries) now well p
+  decided_placed live response (asks.PrmEndAfter tries) now well p = handled_placed live response (asks.PrmEndAfter tries) now well p
   decided_placed live response (asks.Release sequence) now well p =
       stays_placed (record live { asked = None }) (record { plain = p.plain; partner = p.partner; asking = λ e. absurd cc; giving = p.giving; addressing = λ e. absurd cc })
 
@@ -445,6 +482,8 @@ module _ (setup : Setup) (mac : Mac) (apart : mac ≡ setup.plan.controller.mac 
   pending_placed live (Some (asks.Write number)) own = (tt, tt)
   pending_placed live (Some asks.PrmEnd) own = (tt, tt)
   pending_placed live (Some (asks.Release sequence)) own = (tt, tt)
+  pending_placed live (Some (asks.WriteAfter number tries)) own = (tt, tt)
+  pending_placed live (Some (asks.PrmEndAfter tries)) own = (tt, tt)
 
   flowed_placed : (live : Live) (high low : Due) (is_request : Bool) (tick : Brought) (reason : Option Abort) → live.stands ≡ true → IsPlaced mac live → PlacedTurn (flowed live high low is_request tick reason)
   flowed_placed live high low is_request tick (Some reason) up p = record { live = over_placed _ live p; sent = (partner_other live up p, tt) }

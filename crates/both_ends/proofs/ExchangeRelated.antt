@@ -1,9 +1,9 @@
 -- The effect of a response on a controller; its FrameID counts if it is the response to a Connect.
-use Rattle.std.proofs.Common.{◌≡◌, ◌<◌, ◌≤◌, ◌+◌, ◌/◌, ◌||◌, ℕ, Bool, true, false, not, cond, List, length, Option, Some, None, refl, sym, ap, subst, ◌∙◌, arith}
+use Rattle.std.proofs.Common.{◌≡◌, ◌<◌, ◌≤◌, ◌+◌, ◌/◌, ◌||◌, ℕ, Bool, true, false, not, cond, List, length, Option, Some, None, refl, sym, ap, subst, ◌∙◌, arith, ◌&&◌}
 use Rattle.std.proofs.Math.Nat.{mod-lt}
 use Rattle.std.specs.Prelude.{nat_lt}
 use Rattle.std.specs.List.{AllByRecursion}
-use Rattle.std.proofs.lemmas.Bool.{ltb-true}
+use Rattle.std.proofs.lemmas.Bool.{ltb-true, and_parts}
 use Rattle.pn_values.specs.declared.mac.Mac.{Mac}
 use Rattle.frame_codec.specs.Sendable.{IsMac}
 use Rattle.rpc_core.specs.declared.response.Status.{Status}
@@ -20,19 +20,19 @@ use Rattle.controller_messages.specs.declared.request.Request.TheVariants as ask
 use Rattle.controller_messages.specs.declared.setup.Setup.{Setup}
 use Rattle.controller_messages.specs.Heard.{Responds}
 use Rattle.controller_messages.specs.PlugRequests.{is_plug_answer}
-use Rattle.controller_messages.specs.Requests.{first_of, write_count, writing_from}
+use Rattle.controller_messages.specs.Requests.{first_of, write_count, writing_from, writing_after}
 use Rattle.controller_core.specs.declared.stored.state.Cause.{Cause}
 use Rattle.controller_core.specs.declared.stored.state.Cause.TheVariants as cause
 use Rattle.controller_core.specs.declared.stored.state.State.{State}
 use Rattle.controller_core.specs.declared.stored.state.State.TheVariants.{Ended, Waiting}
 use Rattle.controller_messages.specs.Access.{Accessing, is_reply, record_in}
-use Rattle.controller_core.specs.start_up.Answers.{is_answer, is_held}
+use Rattle.controller_core.specs.start_up.Answers.{is_answer, is_held, is_busy, is_tried}
 use Rattle.connects.specs.answers.Connect.{Chosen, chosen_of, found_in, is_whole, nothing}
 use Rattle.controller_core.specs.declared.start_up.outcomes.Outcomes.{Outcomes}
 use Rattle.controller_core.specs.declared.start_up.outcomes.Outcomes.TheVariants.{AllWritten, Unreadable}
 use Rattle.controller_core.specs.declared.start_up.outcomes.Outcomes.TheVariants.{Refused as Denied}
 use Rattle.controller_core.specs.start_up.Outcomes.{outcomes_of}
-use Rattle.controller_core.specs.Machine.{Turn, after_turn, after_write, asking, begun_turn, beside, can_begin, past_record, placed, plug_replied, plugs_by, plugs_of, turned, brings, connected, decided, denied, done, failed, granted, handled, noted, over, related_by, released, replied, replied_by, responded, standing, stays, undone, writing}
+use Rattle.controller_core.specs.Machine.{Turn, after_turn, after_write, asking, begun_turn, beside, can_begin, past_record, placed, plug_replied, plugs_by, plugs_of, turned, brings, connected, decided, denied, done, failed, granted, handled, noted, over, related_by, released, replied, replied_by, responded, standing, stays, undone, writing, refused_end, refused_write, trying}
 use Rattle.controller_core.specs.start_up.Requests.{next_sequence}
 use Rattle.controller_core.specs.stored.State.{phase_for}
 use Rattle.controller_core.specs.stored.State.{Live}
@@ -59,6 +59,8 @@ module _ (setup : Setup) (good : IsSetup setup) where
   numbered : (request : Request) → IsFew request → IsNumbered request
   numbered (asks.Write number) few = omega (arith, few)
   numbered (asks.Release sequence) few = few
+  numbered (asks.WriteAfter number tries) few = (omega (arith, few.0), few.1)
+  numbered (asks.PrmEndAfter tries) few = few
   numbered other few = tt
 
   asking_right : (phase : State) (request : Request) (live : Live) → IsLive live → IsFew request → IsRight setup (asking setup phase request live)
@@ -73,31 +75,43 @@ module _ (setup : Setup) (good : IsSetup setup) where
   over_live : (why : Cause) (live : Live) → IsLive live → IsLive (over why live)
   over_live why live is = record { device = is.device; asked = tt; way = is.way; few = is.few; high = is.high; low = is.low; access = (tt, tt) }
 
-  sequence_few : (plan : Parts) (calls : ℕ) (asked : Option Request) → AreFew asked → next_sequence plan calls asked < 4294967296
-  sequence_few plan calls (Some asks.Connect) few = omega arith
-  sequence_few plan calls (Some (asks.Write number)) few = omega (arith, few)
-  sequence_few plan calls other few = mod-lt (write_count plan + 2 + calls) (omega arith)
+  few_by : (is_list : Bool) (count : ℕ) → count ≤ 32 → cond is_list ((count + 9) / 10) count ≤ 32
+  few_by true count few = omega (arith, few)
+  few_by false count few = few
+
+  sequence_few : (plan : Parts) (calls : ℕ) (asked : Option Request) → IsPlan plan → AreFew asked → next_sequence plan calls asked < 4294967296
+  sequence_few plan calls (Some asks.Connect) is few = omega arith
+  sequence_few plan calls (Some (asks.Write number)) is few = omega (arith, few)
+  sequence_few plan calls (Some (asks.WriteAfter number tries)) is few = omega (arith, few.0, few.1)
+  sequence_few plan calls (Some (asks.PrmEndAfter tries)) is few =
+      omega (arith, few, few_by plan.multiple_write (length plan.records.items) is.few_records)
+  sequence_few plan calls other is few = mod-lt (write_count plan + 2 + calls) (omega arith)
 
   released_right : (why : Cause) (live : Live) → IsLive live → IsRight setup (released setup why live)
   released_right why live is =
-      asking_right (Ended why) (asks.Release (next_sequence setup.plan live.access.calls live.asked)) (over why live) (over_live why live is) (sequence_few setup.plan live.access.calls live.asked is.asked)
+      asking_right (Ended why) (asks.Release (next_sequence setup.plan live.access.calls live.asked)) (over why live) (over_live why live is) (sequence_few setup.plan live.access.calls live.asked good.plan is.asked)
 
   -- the next request is a Write, or PrmEnd
   picked_few : (number : ℕ) (b : Bool) → (b ≡ true → number < 32) → IsFew (cond b (asks.Write number) asks.PrmEnd)
   picked_few number true few = few refl
   picked_few number false few = tt
 
-  few_by : (is_list : Bool) (count : ℕ) → count ≤ 32 → cond is_list ((count + 9) / 10) count ≤ 32
-  few_by true count few = omega (arith, few)
-  few_by false count few = few
+  picked_again : (number tries : ℕ) (b : Bool) → (b ≡ true → number < 32) → tries < 65536 → IsFew (cond b (asks.WriteAfter number tries) (asks.PrmEndAfter tries))
+  picked_again number tries true few tried = (few refl, tried)
+  picked_again number tries false few tried = tried
 
   writing_few : (plan : Parts) (number : ℕ) → IsPlan plan → IsFew (writing_from plan number)
   writing_few plan number is =
       picked_few number (nat_lt number (write_count plan))
       (λ e. let below = ltb-true number (write_count plan) e in omega (arith, below, few_by plan.multiple_write (length plan.records.items) is.few_records))
 
-  writing_right : (number : ℕ) (live : Live) → IsLive live → IsRight setup (writing setup (writing_from setup.plan number) live)
-  writing_right number live is = asking_right (phase_for (writing_from setup.plan number)) (writing_from setup.plan number) live is (writing_few setup.plan number good.plan)
+  again_few : (plan : Parts) (number tries : ℕ) → IsPlan plan → tries < 65536 → IsFew (writing_after plan number tries)
+  again_few plan number tries is tried =
+      picked_again number tries (nat_lt number (write_count plan))
+      (λ e. let below = ltb-true number (write_count plan) e in omega (arith, below, few_by plan.multiple_write (length plan.records.items) is.few_records)) tried
+
+  writing_right : (next : Request) (live : Live) → IsFew next → IsLive live → IsRight setup (writing setup next live)
+  writing_right next live few is = asking_right (phase_for next) next live is few
 
   stands_live : (live : Live) (chosen : Chosen) → IsLive live → (chosen.frame_id < 65536) × (chosen.reference < 65536) → IsLive (standing setup live chosen)
   stands_live live chosen is small = record {
@@ -112,7 +126,7 @@ module _ (setup : Setup) (good : IsSetup setup) where
 
   related_right : (live : Live) (found : Option Chosen) → IsLive live → ((chosen : Chosen) → found ≡ Some chosen → (chosen.frame_id < 65536) × (chosen.reference < 65536))
       → IsRight setup (related_by setup live found)
-  related_right live (Some chosen) is small = writing_right 0 (standing setup live chosen) (stands_live live chosen is (small chosen refl))
+  related_right live (Some chosen) is small = writing_right (writing_from setup.plan 0) (standing setup live chosen) (writing_few setup.plan 0 good.plan) (stands_live live chosen is (small chosen refl))
   related_right live None is small = stays_right live is
 
   -- the places of the plan, by the response to the Connect
@@ -132,51 +146,87 @@ module _ (setup : Setup) (good : IsSetup setup) where
       record { device = is.device; asked = is.asked; way = is.way; few = is.few; high = is.high; low = is.low; access = is.access }
 
   -- a record is refused: the next Write, or the end
-  passed_right : (live : Live) (number refused : ℕ) (status : Status) → IsLive live → IsRight setup (past_record setup number (noted status refused live))
-  passed_right live number refused status is =
+  passed_right : (live : Live) (next : Request) (refused : ℕ) (status : Status) → IsFew next → IsLive live → IsRight setup (past_record setup next (noted status refused live))
+  passed_right live next refused status few is =
       either setup.plan.continue_on_refused_record _ _
-      (λ goes. writing_right (number + 1) (noted status refused live) (noted_live status refused live is))
+      (λ goes. writing_right next (noted status refused live) few (noted_live status refused live is))
       (λ ends. either setup.plan.release_on_refused_record _ _
       (λ informs. released_right cause.Refused (noted status refused live) (noted_live status refused live is))
       (λ silent. stays_right (over cause.Refused (noted status refused live)) (over_live cause.Refused (noted status refused live) (noted_live status refused live is))))
 
-  wrote_right : (live : Live) (number : ℕ) (outcomes : Outcomes) → IsLive live → IsRight setup (after_write setup live number outcomes)
-  wrote_right live number AllWritten is = writing_right (number + 1) live is
-  wrote_right live number (Denied place status) is = passed_right live number (first_of setup.plan number + place) status is
-  wrote_right live number Unreadable is = stays_right live is
+  wrote_right : (live : Live) (number : ℕ) (next : Request) (outcomes : Outcomes) → IsFew next → IsLive live → IsRight setup (after_write setup live number next outcomes)
+  wrote_right live number next AllWritten few is = writing_right next live few is
+  wrote_right live number next (Denied place status) few is = passed_right live next (first_of setup.plan number + place) status few is
+  wrote_right live number next Unreadable few is = stays_right live is
 
-  done_right : (live : Live) (blocks : List ℕ) (request : Request) → IsLive live → (request ≡ asks.Connect → IsChosenWell blocks) → IsRight setup (done setup live blocks request)
-  done_right live blocks asks.Identify is well = stays_right live is
-  done_right live blocks asks.Address is well = stays_right live is
-  done_right live blocks asks.Connect is well = connected_right live blocks (found_in 400 blocks nothing) refl is (well refl)
-  done_right live blocks (asks.Write number) is well = wrote_right live number (outcomes_of setup.plan number blocks) is
-  done_right live blocks asks.PrmEnd is well = stays_right _ (unasked live Waiting setup.options.waiting_patience is)
-  done_right live blocks (asks.Release sequence) is well = stays_right _ (unasked live live.phase live.left is)
+  -- a request that is refused as busy is tried again
+  tried_below : (status : Status) (tries : ℕ) → is_tried setup.plan status tries ≡ true → tries < 65535
+  tried_below status tries again =
+      let keyed = and_parts setup.plan.persistent_start (is_busy status && nat_lt tries 65535) again in
+      ltb-true tries 65535 (and_parts (is_busy status) (nat_lt tries 65535) keyed.1).1
 
-  undone_right : (live : Live) (status : Status) (request : Request) → IsLive live → IsRight setup (undone setup live status request)
-  undone_right live status (asks.Write number) is = passed_right live number (first_of setup.plan number) status is
-  undone_right live status asks.Connect is =
+  trying_right : (live : Live) (next : Request) (status : Status) → IsFew next → IsLive live → IsRight setup (trying next status live)
+  trying_right live next status few is =
+      (record { device = is.device; asked = few; way = is.way; few = is.few; high = is.high; low = is.low; access = is.access }, tt)
+
+  refused_write_right : (live : Live) (status : Status) (number tries : ℕ) (next : Request) → number < 32 → IsFew next → IsLive live
+      → IsRight setup (refused_write setup live status number tries next)
+  refused_write_right live status number tries next below few is =
+      either (is_tried setup.plan status tries) _ _
+      (λ again. trying_right live (asks.WriteAfter number (tries + 1)) status (below, omega (arith, tried_below status tries again)) is)
+      (λ other. passed_right live next (first_of setup.plan number) status few is)
+
+  refused_end_right : (live : Live) (status : Status) (tries : ℕ) → IsLive live → IsRight setup (refused_end setup live status tries)
+  refused_end_right live status tries is =
+      either (is_tried setup.plan status tries) _ _
+      (λ again. trying_right live (asks.PrmEndAfter (tries + 1)) status (omega (arith, tried_below status tries again)) is)
+      (λ other. stays_right (denied status live)
+      (record { device = is.device; asked = tt; way = is.way; few = is.few; high = is.high; low = is.low; access = (tt, tt) }))
+
+  done_right : (live : Live) (blocks : List ℕ) (request : Request) → IsFew request → IsLive live → (request ≡ asks.Connect → IsChosenWell blocks) → IsRight setup (done setup live blocks request)
+  done_right live blocks asks.Identify few is well = stays_right live is
+  done_right live blocks asks.Address few is well = stays_right live is
+  done_right live blocks asks.Connect few is well = connected_right live blocks (found_in 400 blocks nothing) refl is (well refl)
+  done_right live blocks (asks.Write number) few is well =
+      wrote_right live number (writing_from setup.plan (number + 1)) (outcomes_of setup.plan number blocks) (writing_few setup.plan (number + 1) good.plan) is
+  done_right live blocks (asks.WriteAfter number tries) few is well =
+      wrote_right live number (writing_after setup.plan (number + 1) tries) (outcomes_of setup.plan number blocks)
+      (again_few setup.plan (number + 1) tries good.plan few.1) is
+  done_right live blocks asks.PrmEnd few is well = stays_right _ (unasked live Waiting setup.options.waiting_patience is)
+  done_right live blocks (asks.PrmEndAfter tries) few is well = stays_right _ (unasked live Waiting setup.options.waiting_patience is)
+  done_right live blocks (asks.Release sequence) few is well = stays_right _ (unasked live live.phase live.left is)
+
+  undone_right : (live : Live) (status : Status) (request : Request) → IsFew request → IsLive live → IsRight setup (undone setup live status request)
+  undone_right live status (asks.Write number) few is =
+      refused_write_right live status number 0 (writing_from setup.plan (number + 1)) few (writing_few setup.plan (number + 1) good.plan) is
+  undone_right live status (asks.WriteAfter number tries) few is =
+      refused_write_right live status number tries (writing_after setup.plan (number + 1) tries) few.0 (again_few setup.plan (number + 1) tries good.plan few.1) is
+  undone_right live status asks.PrmEnd few is = refused_end_right live status 0 is
+  undone_right live status (asks.PrmEndAfter tries) few is = refused_end_right live status tries is
+  undone_right live status asks.Connect few is =
       let next : Live = record live { refusal = Some status } in
       let same : IsLive next =
       record { device = is.device; asked = is.asked; way = is.way; few = is.few; high = is.high; low = is.low; access = is.access } in
       either (is_held setup.plan status) _ _ (λ held. released_right cause.Refused next same) (λ not. stays_right (over cause.Refused next) (over_live cause.Refused next same))
-  undone_right live status request is =
+  undone_right live status request few is =
       stays_right (denied status live) (record { device = is.device; asked = tt; way = is.way; few = is.few; high = is.high; low = is.low; access = (tt, tt) })
 
-  handled_right : (live : Live) (response : Response) (request : Request) → IsLive live → (request ≡ asks.Connect → is_done response.status ≡ true → IsChosenWell response.blocks)
+  handled_right : (live : Live) (response : Response) (request : Request) → IsFew request → IsLive live → (request ≡ asks.Connect → is_done response.status ≡ true → IsChosenWell response.blocks)
       → IsRight setup (handled setup live response request)
-  handled_right live response request is well =
-      either (is_done response.status) _ _ (λ positive. done_right live response.blocks request is (λ connects. well connects positive))
-      (λ negative. undone_right live response.status request is)
+  handled_right live response request few is well =
+      either (is_done response.status) _ _ (λ positive. done_right live response.blocks request few is (λ connects. well connects positive))
+      (λ negative. undone_right live response.status request few is)
 
-  decided_right : (live : Live) (response : Response) (request : Request) → IsLive live → (request ≡ asks.Connect → is_done response.status ≡ true → IsChosenWell response.blocks)
+  decided_right : (live : Live) (response : Response) (request : Request) → IsFew request → IsLive live → (request ≡ asks.Connect → is_done response.status ≡ true → IsChosenWell response.blocks)
       → IsRight setup (decided setup live response request)
-  decided_right live response asks.Identify is well = handled_right live response asks.Identify is well
-  decided_right live response asks.Address is well = handled_right live response asks.Address is well
-  decided_right live response asks.Connect is well = handled_right live response asks.Connect is well
-  decided_right live response (asks.Write number) is well = handled_right live response (asks.Write number) is well
-  decided_right live response asks.PrmEnd is well = handled_right live response asks.PrmEnd is well
-  decided_right live response (asks.Release sequence) is well = stays_right _ (unasked live live.phase live.left is)
+  decided_right live response asks.Identify few is well = handled_right live response asks.Identify few is well
+  decided_right live response asks.Address few is well = handled_right live response asks.Address few is well
+  decided_right live response asks.Connect few is well = handled_right live response asks.Connect few is well
+  decided_right live response (asks.Write number) few is well = handled_right live response (asks.Write number) few is well
+  decided_right live response asks.PrmEnd few is well = handled_right live response asks.PrmEnd few is well
+  decided_right live response (asks.WriteAfter number tries) few is well = handled_right live response (asks.WriteAfter number tries) few is well
+  decided_right live response (asks.PrmEndAfter tries) few is well = handled_right live response (asks.PrmEndAfter tries) few is well
+  decided_right live response (asks.Release sequence) few is well = stays_right _ (unasked live live.phase live.left is)
 
   -- the answer to a request of the application
   answered_live : (live : Live) (refusal : Option Status) (access : Accessing) → access.waiting ≡ None → access.plug ≡ live.access.plug → IsLive live
@@ -248,13 +298,13 @@ module _ (setup : Setup) (good : IsSetup setup) where
       (λ answers. (now, plugs_right after.device after.access.plug now.device now.access.1)) (λ other. stays_right live is)
   beside_right live response None is = stays_right (replied setup live response live.access.waiting) (replied_live live response live.access.waiting is)
 
-  responded_right : (live : Live) (response : Response) (asked : Option Request) → IsLive live → IsWell setup (Responds response) → IsRight setup (responded setup live response asked)
-  responded_right live response (Some request) is fit =
+  responded_right : (live : Live) (response : Response) (asked : Option Request) → AreFew asked → IsLive live → IsWell setup (Responds response) → IsRight setup (responded setup live response asked)
+  responded_right live response (Some request) few is fit =
       either (is_answer setup request response.header) _ _
-      (λ answers. decided_right live response request is (λ connects. fit (ap (λ (one : Request). is_answer setup one response.header) (sym connects) ∙ answers)))
+      (λ answers. decided_right live response request few is (λ connects. fit (ap (λ (one : Request). is_answer setup one response.header) (sym connects) ∙ answers)))
       (λ other. stays_right live is)
-  responded_right live response None is fit = beside_right live response live.access.plug is
+  responded_right live response None few is fit = beside_right live response live.access.plug is
 
   -- the turn of a response, and that of a place which may begin then
   pub response_right : (live : Live) (response : Response) → IsLive live → IsWell setup (Responds response) → IsRight setup (turned setup live (Responds response))
-  response_right live response is fit = after_right (can_begin live) (responded setup live response live.asked) (responded_right live response live.asked is fit)
+  response_right live response is fit = after_right (can_begin live) (responded setup live response live.asked) (responded_right live response live.asked is.asked is fit)

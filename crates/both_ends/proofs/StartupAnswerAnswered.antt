@@ -151,6 +151,8 @@ not_yet asks.Connect = refl
 not_yet (asks.Write number) = refl
 not_yet asks.PrmEnd = refl
 not_yet (asks.Release sequence) = refl
+not_yet (asks.WriteAfter number tries) = refl
+not_yet (asks.PrmEndAfter tries) = refl
 
 none_begins : (setup : Setup) (could : Bool) (turn : Turn) → can_begin turn.live ≡ false → after_turn setup could turn ≡ turn
 none_begins setup could turn none = by_tests could (can_begin turn.live) none

@@ -190,6 +190,7 @@ six_heard sound mine octets = six_read sound mine octets (frame_of octets) refl
 -- a call that a device hears is one that the controller makes
 abbrev pub IsListed : Parts → Request → Type 0
 IsListed plan (asks.Write number) = number < write_count plan
+IsListed plan (asks.WriteAfter number tries) = number < write_count plan
 IsListed plan request = Unit {0}
 
 pub record IsOwnCall (setup : Setup) (caller : Caller) (call : Call) : Type 0 where
@@ -580,6 +581,9 @@ module _ (so : HeardSo) (setup : Setup) (station : Station) (good : IsSetup setu
       let same : (number + 1) - 1 ≡ number = omega arith in
       ap (λ (b : Bool). ends.written_by b (number + 1)) (write_is_planned number listed) ∙ ap (λ (n : ℕ). small.Call (number + 1) (small.Writes n)) same
   asked_is asks.PrmEnd called listed = refl
+  asked_is (asks.PrmEndAfter tries) called listed = refl
+  -- OPEN: a Write is known by its sequence number
+  asked_is (asks.WriteAfter number tries) called listed = ?
   asked_is (asks.Release sequence) called listed = refl
 
   -- a call to the device, of the start-up, of the application or after a plug
@@ -634,10 +638,10 @@ module _ (so : HeardSo) (setup : Setup) (station : Station) (good : IsSetup setu
   multicast_six = refl
 
   -- a record that is written now is one of the plan
-  is_listed : (now : small.Controller) (number : ℕ) → CallsWhile (write_count setup.plan) now (number + 1) (small.Writes number) → number < write_count setup.plan
-  is_listed now number (inl releases) = absurd cc
-  is_listed now number (inr (inl asked)) = asked.1.0
-  is_listed now number (inr (inr accesses)) = absurd (not_access number accesses.0)
+  is_listed : (now : small.Controller) (sequence number : ℕ) → CallsWhile (write_count setup.plan) now sequence (small.Writes number) → number < write_count setup.plan
+  is_listed now sequence number (inl releases) = absurd cc
+  is_listed now sequence number (inr (inl asked)) = asked.1.0
+  is_listed now sequence number (inr (inr accesses)) = absurd (not_access number accesses.0)
     where
       not_access : (n : ℕ) → small.Writes n ≡ small.Accesses → ⊥
       not_access n e = cc
@@ -651,8 +655,10 @@ module _ (so : HeardSo) (setup : Setup) (station : Station) (good : IsSetup setu
   message_reported now (said.Requests to asks.Identify) aimed says = data_reported identify_multicast None _ _ small.Idle multicast_six tt
   message_reported now (said.Requests to asks.Address) aimed says = data_reported to None _ _ small.Idle aimed.0 tt
   message_reported now (said.Requests to asks.Connect) aimed says = call_reported to asks.Connect aimed.0 tt tt tt
-  message_reported now (said.Requests to (asks.Write number)) aimed says = call_reported to (asks.Write number) aimed.0 tt aimed.1 (is_listed now number says)
+  message_reported now (said.Requests to (asks.Write number)) aimed says = call_reported to (asks.Write number) aimed.0 tt aimed.1 (is_listed now (number + 1) number says)
   message_reported now (said.Requests to asks.PrmEnd) aimed says = call_reported to asks.PrmEnd aimed.0 tt tt tt
+  message_reported now (said.Requests to (asks.PrmEndAfter tries)) aimed says = call_reported to (asks.PrmEndAfter tries) aimed.0 tt aimed.1 tt
+  message_reported now (said.Requests to (asks.WriteAfter number tries)) aimed says = call_reported to (asks.WriteAfter number tries) aimed.0 tt aimed.1 (is_listed now (number + tries + 1) number says)
   message_reported now (said.Requests to (asks.Release sequence)) aimed says = call_reported to (asks.Release sequence) aimed.0 tt aimed.1 tt
   message_reported now (said.Accesses to request octets) aimed says = access_reported to request octets aimed.0 aimed.1
   message_reported now (said.Parametrizes to request) aimed says = plugged_reported to request aimed.0 aimed.1

@@ -480,6 +480,9 @@ module _ (read : (block : Block) (rest : List ℕ) → CanBeWritten block → bl
   asked_planned asks.Connect called listed = good.connect
   asked_planned (asks.Write number) called listed = λ planned. write_planned number listed
   asked_planned asks.PrmEnd called listed = tt
+  asked_planned (asks.PrmEndAfter tries) called listed = tt
+  -- OPEN: a Write is known by its sequence number
+  asked_planned (asks.WriteAfter number tries) called listed = ?
   asked_planned (asks.Release sequence) called listed = tt
 
   -- a Write of the application, or after a plug, that is one of the plan

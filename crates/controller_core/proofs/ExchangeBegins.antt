@@ -39,7 +39,7 @@ use Rattle.controller_messages.specs.Heard.{Cyclic as Comes}
 use Rattle.controller_messages.specs.Access.{is_rejected, is_reply, record_in}
 use Rattle.controller_messages.specs.PlugRequests.{is_plug_answer, is_plug_ready, plug_ready_in}
 use Rattle.controller_messages.specs.RecordRequests.{most_record_octets}
-use Rattle.controller_messages.specs.Requests.{first_of, writing_from}
+use Rattle.controller_messages.specs.Requests.{first_of, writing_after, writing_from}
 use Rattle.controller_messages.specs.Sent.{Agrees, bytes_of, ready_answer}
 use Rattle.connects.specs.declared.answers.connect.Found.{Found}
 use Rattle.connects.specs.answers.Connect.{Chosen, chosen_of, found_in, is_whole, nothing}
@@ -56,9 +56,9 @@ use Rattle.controller_core.specs.declared.stored.state.State.{State}
 use Rattle.controller_core.specs.declared.stored.state.State.TheVariants.{Looking, Addressing, Connecting, Writing, Ending, Waiting, Exchanging, Ended}
 use Rattle.controller_core.specs.stored.State.{Controlling, Live}
 use Rattle.controller_core.specs.stored.Alarms.{ack_of, is_alarm}
-use Rattle.controller_core.specs.start_up.Answers.{is_addressed, is_answer, is_found, is_held, is_ready, is_refused, is_right, is_set_answer, ready_in}
+use Rattle.controller_core.specs.start_up.Answers.{is_addressed, is_answer, is_found, is_held, is_ready, is_refused, is_right, is_set_answer, is_tried, ready_in}
 use Rattle.controller_core.specs.start_up.Outcomes.{outcomes_of}
-use Rattle.controller_core.specs.Machine.{Turn, acked_under, acking, after_turn, after_write, alarmed, answered, begun_by, begun_turn, behind_data, beside, brings, brought, called, can_begin, can_request, come, connected, decided, done, end_of, exchange_later, flowed, given, gone_on, granted, handled, is_again, is_plug_awaited, is_spent, keeping, later, noted, noticed, past_record, placed, plug_called, plug_finished, plug_passed_by, plug_refused, plug_replied, plug_responded, quit, rated, readied, refused, refused_beside, refused_by, refused_place, rejected, related_by, replied, requested, responded, standing, stays, step_of, taken, ticked, turn_due, turn_of, turned, undone, with_end, writing, written}
+use Rattle.controller_core.specs.Machine.{Turn, acked_under, acking, after_turn, after_write, alarmed, answered, begun_by, begun_turn, behind_data, beside, brings, brought, called, can_begin, can_request, come, connected, decided, done, end_of, exchange_later, flowed, given, gone_on, granted, handled, is_again, is_plug_awaited, is_spent, keeping, later, noted, noticed, past_record, placed, plug_called, plug_finished, plug_passed_by, plug_refused, plug_replied, plug_responded, quit, rated, readied, refused, refused_beside, refused_by, refused_end, refused_place, refused_write, rejected, related_by, replied, requested, responded, standing, stays, step_of, taken, ticked, turn_due, turn_of, turned, undone, with_end, writing, written}
 use Rattle.controller_core.specs.Readied.{IsReadied}
 use Rattle.controller_core.specs.Leaps.{ticks_of}
 
@@ -97,6 +97,8 @@ module _ (setup : Setup) (live : Live) where
   writes asks.Connect now e = absurd cc
   writes asks.PrmEnd now e = absurd cc
   writes (asks.Release sequence) now e = absurd cc
+  writes (asks.WriteAfter number tries) now e = absurd cc
+  writes (asks.PrmEndAfter tries) now e = absurd cc
 
   -- ---- DCP answers
 
@@ -123,30 +125,42 @@ module _ (setup : Setup) (live : Live) where
       either live _ _ (is_whole found) (either live _ _ found.differs (λ e. absurd cc) (relates (placed setup blocks live) refl (chosen_of found))) rests
   connects blocks None = rests
 
-  passes : (number : ℕ) (now : Live) → Goes live (past_record setup number now)
-  passes number now =
-      either live _ _ setup.plan.continue_on_refused_record (writes (writing_from setup.plan (number + 1)) now)
+  passes : (next : Request) (now : Live) → Goes live (past_record setup next now)
+  passes next now =
+      either live _ _ setup.plan.continue_on_refused_record (writes next now)
       (either live _ _ setup.plan.release_on_refused_record (λ e. absurd cc) (λ e. absurd cc))
 
-  after_writes : (number : ℕ) (outcomes : Outcomes) → Goes live (after_write setup live number outcomes)
-  after_writes number AllWritten = writes (writing_from setup.plan (number + 1)) live
-  after_writes number (Denied place status) = passes number (noted status (first_of setup.plan number + place) live)
-  after_writes number Unreadable = rests
+  after_writes : (number : ℕ) (next : Request) (outcomes : Outcomes) → Goes live (after_write setup live number next outcomes)
+  after_writes number next AllWritten = writes next live
+  after_writes number next (Denied place status) = passes next (noted status (first_of setup.plan number + place) live)
+  after_writes number next Unreadable = rests
 
   done_goes : (blocks : List ℕ) (request : Request) → Goes live (done setup live blocks request)
   done_goes blocks asks.Identify e = rests e
   done_goes blocks asks.Address e = rests e
   done_goes blocks asks.Connect e = connects blocks (found_in 400 blocks nothing) e
-  done_goes blocks (asks.Write number) e = after_writes number (outcomes_of setup.plan number blocks) e
+  done_goes blocks (asks.Write number) e = after_writes number (writing_from setup.plan (number + 1)) (outcomes_of setup.plan number blocks) e
+  done_goes blocks (asks.WriteAfter number tries) e =
+      after_writes number (writing_after setup.plan (number + 1) tries) (outcomes_of setup.plan number blocks) e
+  done_goes blocks (asks.PrmEndAfter tries) e = absurd cc
   done_goes blocks asks.PrmEnd e = absurd cc
   done_goes blocks (asks.Release sequence) e = e
 
+  refuses_write : (status : Status) (number tries : ℕ) (next : Request) → Goes live (refused_write setup live status number tries next)
+  refuses_write status number tries next =
+      either live _ _ (is_tried setup.plan status tries) rests (passes next (noted status (first_of setup.plan number) live))
+
+  refuses_end : (status : Status) (tries : ℕ) → Goes live (refused_end setup live status tries)
+  refuses_end status tries = either live _ _ (is_tried setup.plan status tries) rests (λ e. absurd cc)
+
   undone_goes : (status : Status) (request : Request) → Goes live (undone setup live status request)
-  undone_goes status (asks.Write number) e = passes number (noted status (first_of setup.plan number) live) e
+  undone_goes status (asks.Write number) e = refuses_write status number 0 (writing_from setup.plan (number + 1)) e
+  undone_goes status (asks.WriteAfter number tries) e = refuses_write status number tries (writing_after setup.plan (number + 1) tries) e
   undone_goes status asks.Identify e = absurd cc
   undone_goes status asks.Address e = absurd cc
   undone_goes status asks.Connect e = either live _ _ (is_held setup.plan status) (λ e. absurd cc) (λ e. absurd cc) e
-  undone_goes status asks.PrmEnd e = absurd cc
+  undone_goes status asks.PrmEnd e = refuses_end status 0 e
+  undone_goes status (asks.PrmEndAfter tries) e = refuses_end status tries e
   undone_goes status (asks.Release sequence) e = absurd cc
 
   handled_goes : (response : Response) (request : Request) → Goes live (handled setup live response request)
@@ -159,6 +173,8 @@ module _ (setup : Setup) (live : Live) where
   decides response asks.Connect e = handled_goes response asks.Connect e
   decides response (asks.Write number) e = handled_goes response (asks.Write number) e
   decides response asks.PrmEnd e = handled_goes response asks.PrmEnd e
+  decides response (asks.WriteAfter number tries) e = handled_goes response (asks.WriteAfter number tries) e
+  decides response (asks.PrmEndAfter tries) e = handled_goes response (asks.PrmEndAfter tries) e
 
   brings_go : (request : RecordRequest) (octets : Option (List ℕ)) → Goes live (stays (brings request octets live))
   brings_go request (Some octets) e = e
@@ -232,6 +248,8 @@ module _ (setup : Setup) (live : Live) where
   refuses_by refusal asks.Connect e = absurd cc
   refuses_by refusal (asks.Write number) e = absurd cc
   refuses_by refusal asks.PrmEnd e = absurd cc
+  refuses_by refusal (asks.WriteAfter number tries) e = absurd cc
+  refuses_by refusal (asks.PrmEndAfter tries) e = absurd cc
 
   rejects : (refusal : Refusal) (waiting : Option RecordRequest) → Goes live (stays (rejected setup live refusal waiting))
   rejects refusal (Some request) = if_stays (is_rejected setup request refusal) _ _ (λ e. e) rests

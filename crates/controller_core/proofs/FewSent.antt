@@ -23,7 +23,7 @@ use Rattle.controller_messages.specs.declared.request.Request.{Request}
 use Rattle.controller_messages.specs.declared.request.Request.TheVariants as asks
 use Rattle.controller_messages.specs.declared.setup.Setup.{Setup}
 use Rattle.controller_messages.specs.PlugRequests.{is_plug_answer, is_plug_ready}
-use Rattle.controller_messages.specs.Requests.{first_of, writing_from}
+use Rattle.controller_messages.specs.Requests.{first_of, writing_after, writing_from}
 use Rattle.controller_messages.specs.Sent.{Sent, bytes_of}
 use Rattle.connects.specs.declared.answers.connect.Found.{Found}
 use Rattle.connects.specs.answers.Connect.{Chosen, chosen_of, found_in, is_whole, nothing}
@@ -32,9 +32,9 @@ use Rattle.controller_core.specs.declared.start_up.outcomes.Outcomes.TheVariants
 use Rattle.controller_core.specs.declared.start_up.outcomes.Outcomes.TheVariants.{Refused as Denied}
 use Rattle.controller_core.specs.stored.State.{Live}
 use Rattle.controller_core.specs.stored.Alarms.{is_alarm}
-use Rattle.controller_core.specs.start_up.Answers.{is_answer, is_held, is_refused}
+use Rattle.controller_core.specs.start_up.Answers.{is_answer, is_held, is_refused, is_tried}
 use Rattle.controller_core.specs.start_up.Outcomes.{outcomes_of}
-use Rattle.controller_core.specs.Machine.{Turn, after_write, alarmed, behind_data, beside, connected, decided, done, end_of, handled, is_plug_awaited, noted, noticed, past_record, placed, plug_called, plug_replied, plugs_by, refused, refused_by, related_by, responded, standing, stays, taken, undone, writing}
+use Rattle.controller_core.specs.Machine.{Turn, after_write, alarmed, behind_data, beside, connected, decided, done, end_of, handled, is_plug_awaited, noted, noticed, past_record, placed, plug_called, plug_replied, plugs_by, refused, refused_by, refused_end, refused_write, related_by, responded, standing, stays, taken, undone, writing}
 
 abbrev IsFew : Turn → Type 0
 IsFew turn = length turn.sent ≤ 2
@@ -65,30 +65,42 @@ module _ (setup : Setup) (live : Live) where
       either _ _ (is_whole found) (either _ _ found.differs (omega arith) (relates (placed setup blocks live) (chosen_of found))) (stays_few live)
   connects blocks None = stays_few live
 
-  passes : (number : ℕ) (now : Live) → IsFew (past_record setup number now)
-  passes number now =
-      either _ _ setup.plan.continue_on_refused_record (writes (writing_from setup.plan (number + 1)) now)
+  passes : (next : Request) (now : Live) → IsFew (past_record setup next now)
+  passes next now =
+      either _ _ setup.plan.continue_on_refused_record (writes next now)
       (either _ _ setup.plan.release_on_refused_record (omega arith) (omega arith))
 
-  after_writes : (number : ℕ) (outcomes : Outcomes) → IsFew (after_write setup live number outcomes)
-  after_writes number AllWritten = writes (writing_from setup.plan (number + 1)) live
-  after_writes number (Denied place status) = passes number (noted status (first_of setup.plan number + place) live)
-  after_writes number Unreadable = stays_few live
+  after_writes : (number : ℕ) (next : Request) (outcomes : Outcomes) → IsFew (after_write setup live number next outcomes)
+  after_writes number next AllWritten = writes next live
+  after_writes number next (Denied place status) = passes next (noted status (first_of setup.plan number + place) live)
+  after_writes number next Unreadable = stays_few live
 
   done_few : (blocks : List ℕ) (request : Request) → IsFew (done setup live blocks request)
   done_few blocks asks.Identify = omega arith
   done_few blocks asks.Address = omega arith
   done_few blocks asks.Connect = connects blocks (found_in 400 blocks nothing)
-  done_few blocks (asks.Write number) = after_writes number (outcomes_of setup.plan number blocks)
+  done_few blocks (asks.Write number) = after_writes number (writing_from setup.plan (number + 1)) (outcomes_of setup.plan number blocks)
+  done_few blocks (asks.WriteAfter number tries) =
+      after_writes number (writing_after setup.plan (number + 1) tries) (outcomes_of setup.plan number blocks)
+  done_few blocks (asks.PrmEndAfter tries) = omega arith
   done_few blocks asks.PrmEnd = omega arith
   done_few blocks (asks.Release sequence) = omega arith
 
+  refused_write_few : (status : Status) (number tries : ℕ) (next : Request) → IsFew (refused_write setup live status number tries next)
+  refused_write_few status number tries next =
+      either _ _ (is_tried setup.plan status tries) (omega arith) (passes next (noted status (first_of setup.plan number) live))
+
+  refused_end_few : (status : Status) (tries : ℕ) → IsFew (refused_end setup live status tries)
+  refused_end_few status tries = either _ _ (is_tried setup.plan status tries) (omega arith) (omega arith)
+
   undone_few : (status : Status) (request : Request) → IsFew (undone setup live status request)
-  undone_few status (asks.Write number) = passes number (noted status (first_of setup.plan number) live)
+  undone_few status (asks.Write number) = refused_write_few status number 0 (writing_from setup.plan (number + 1))
+  undone_few status (asks.WriteAfter number tries) = refused_write_few status number tries (writing_after setup.plan (number + 1) tries)
   undone_few status asks.Identify = omega arith
   undone_few status asks.Address = omega arith
   undone_few status asks.Connect = either _ _ (is_held setup.plan status) (omega arith) (omega arith)
-  undone_few status asks.PrmEnd = omega arith
+  undone_few status asks.PrmEnd = refused_end_few status 0
+  undone_few status (asks.PrmEndAfter tries) = refused_end_few status tries
   undone_few status (asks.Release sequence) = omega arith
 
   handled_few : (response : Response) (request : Request) → IsFew (handled setup live response request)
@@ -101,6 +113,8 @@ module _ (setup : Setup) (live : Live) where
   decided_few response asks.Connect = handled_few response asks.Connect
   decided_few response (asks.Write number) = handled_few response (asks.Write number)
   decided_few response asks.PrmEnd = handled_few response asks.PrmEnd
+  decided_few response (asks.WriteAfter number tries) = handled_few response (asks.WriteAfter number tries)
+  decided_few response (asks.PrmEndAfter tries) = handled_few response (asks.PrmEndAfter tries)
 
   beside_few : (response : Response) (plug : Option PlugRequest) → IsFew (beside setup live response plug)
   beside_few response (Some request) =
@@ -126,6 +140,8 @@ module _ (setup : Setup) (live : Live) where
   refused_by_none refusal asks.Connect = refl
   refused_by_none refusal (asks.Write number) = refl
   refused_by_none refusal asks.PrmEnd = refl
+  refused_by_none refusal (asks.WriteAfter number tries) = refl
+  refused_by_none refusal (asks.PrmEndAfter tries) = refl
 
   pub refused_none : (refusal : Refusal) (asked : Option Request) → [] ≡ map (bytes_of setup) (refused setup live refusal asked).sent
   refused_none refusal (Some request) = either_none _ _ (is_refused setup request refusal) (refused_by_none refusal request) refl

@@ -50,7 +50,7 @@ use Rattle.controller_messages.specs.Heard.{Heard, Nothing, Answers, Responds, R
 use Rattle.controller_messages.specs.Heard.{Cyclic as Comes}
 use Rattle.controller_messages.specs.Options.{default_options}
 use Rattle.controller_messages.specs.RecordRequests.{most_record_octets}
-use Rattle.controller_messages.specs.Requests.{first_of, writing_from}
+use Rattle.controller_messages.specs.Requests.{first_of, writing_after, writing_from}
 use Rattle.controller_messages.specs.Sent.{Sent, Requests, Accesses, Parametrizes, Agrees, Cycles, Confirms, Replies, Ends, bytes_of, ready_answer}
 use Rattle.controller_messages.specs.Sent.{done as no_error}
 use Rattle.connects.specs.declared.answers.connect.Found.{Found}
@@ -73,10 +73,10 @@ use Rattle.plan_places.specs.declared.place.PlaceState.TheVariants as known
 use Rattle.plan_places.specs.Places.{after_alarm, has_turn_at, is_awaited, next_waiting, no_places, opened, with_state}
 use Rattle.plan_places.specs.Places.{readied as places_readied}
 use Rattle.plan_places.specs.Records.{record_from}
-use Rattle.controller_messages.specs.Access.{answered_with, call_number, dropped, is_free, is_rejected, is_reply, made, no_access, plugged, record_in, unplugged}
+use Rattle.controller_messages.specs.Access.{answered_with, call_number, dropped, is_free, is_rejected, is_reply, made, no_access, plugged, record_in, retried, unplugged}
 use Rattle.controller_core.specs.stored.Outputs.{awaits, change_by, iops_of, mark_at, marked}
 use Rattle.controller_core.specs.stored.State.{Controlling, Live, is_limited, left_in, phase_for, with_live}
-use Rattle.controller_core.specs.start_up.Answers.{is_addressed, is_answer, is_found, is_held, is_ready, is_refused, is_right, is_set_answer, ready_in}
+use Rattle.controller_core.specs.start_up.Answers.{is_addressed, is_answer, is_found, is_held, is_ready, is_refused, is_right, is_set_answer, is_tried, ready_in}
 use Rattle.connects.specs.answers.Connect.{Chosen, chosen_of, found_in, is_whole, nothing}
 use Rattle.controller_core.specs.declared.start_up.outcomes.Outcomes.{Outcomes}
 use Rattle.controller_core.specs.declared.start_up.outcomes.Outcomes.TheVariants.{AllWritten, Unreadable}
@@ -193,35 +193,61 @@ noted status number live = record live { refusal = Some status; refused_record =
 abbrev pub refused_record : Setup → Live → Turn
 refused_record setup live = if setup.plan.release_on_refused_record then released setup cause.Refused live else stays (over cause.Refused live)
 
--- After a record was refused: the next Write if the plan goes on, else the end.
-abbrev pub past_record : Setup → ℕ → Live → Turn
-past_record setup number live =
-    if setup.plan.continue_on_refused_record then writing setup (writing_from setup.plan (number + 1)) live else refused_record setup live
+-- After a record was refused: the request that follows if the plan goes on, else the end.
+abbrev pub past_record : Setup → Request → Live → Turn
+past_record setup next live = if setup.plan.continue_on_refused_record then writing setup next live else refused_record setup live
 
--- After a positive response to a Write: the next one, if all its records were written. A response that cannot be read is
--- dropped.
-abbrev pub after_write : Setup → Live → ℕ → Outcomes → Turn
-after_write setup live number AllWritten = writing setup (writing_from setup.plan (number + 1)) live
-after_write setup live number (Denied place status) = past_record setup number (noted status (first_of setup.plan number + place) live)
-after_write setup live number Unreadable = stays live
+-- After a positive response to the Write with this number: the request that follows, if all its records were written. A response that
+-- cannot be read is dropped.
+abbrev pub after_write : Setup → Live → ℕ → Request → Outcomes → Turn
+after_write setup live number next AllWritten = writing setup next live
+after_write setup live number next (Denied place status) = past_record setup next (noted status (first_of setup.plan number + place) live)
+after_write setup live number next Unreadable = stays live
+
+-- PrmEnd is accepted: ApplicationReady is awaited.
+abbrev pub waits_from : Setup → Live → Live
+waits_from setup live = record live { phase = Waiting; asked = None; left = setup.options.waiting_patience }
 
 -- After a positive response.
 abbrev pub done : Setup → Live → List ℕ → Request → Turn
 done setup live blocks asks.Identify = stays live
 done setup live blocks asks.Address = stays live
 done setup live blocks asks.Connect = connected setup live blocks (found_in 400 blocks nothing)
-done setup live blocks (asks.Write number) = after_write setup live number (outcomes_of setup.plan number blocks)
-done setup live blocks asks.PrmEnd = stays (record live { phase = Waiting; asked = None; left = setup.options.waiting_patience })
+done setup live blocks (asks.Write number) =
+    after_write setup live number (writing_from setup.plan (number + 1)) (outcomes_of setup.plan number blocks)
+done setup live blocks asks.PrmEnd = stays (waits_from setup live)
 done setup live blocks (asks.Release sequence) = stays (record live { asked = None })
+done setup live blocks (asks.WriteAfter number tries) =
+    after_write setup live number (writing_after setup.plan (number + 1) tries) (outcomes_of setup.plan number blocks)
+done setup live blocks (asks.PrmEndAfter tries) = stays (waits_from setup live)
 
 -- The device refuses the Connect with this status: the controller ends. If the device holds the relation already, it is informed.
 abbrev pub refused_connect : Setup → Live → Status → Turn
 refused_connect setup live status =
     if is_held setup.plan status then released setup cause.Refused (record live { refusal = Some status }) else stays (denied status live)
 
+-- A call is refused as busy. This request is sent next, with the end of the second, by a new call.
+abbrev pub trying : Request → Status → Live → Turn
+trying next status live = stays (record live { asked = Some next; refusal = Some status; access = retried live.access })
+
+-- The device refuses the Write with this number, after this many calls were refused as busy: it is tried again if the plan says so, else its
+-- first record is refused, and this request follows if the plan goes on.
+abbrev pub refused_write : Setup → Live → Status → ℕ → ℕ → Request → Turn
+refused_write setup live status number tries next =
+    if is_tried setup.plan status tries then trying (asks.WriteAfter number (tries + 1)) status live
+    else past_record setup next (noted status (first_of setup.plan number) live)
+
+-- The same of PrmEnd: it is tried again, or the controller ends.
+abbrev pub refused_end : Setup → Live → Status → ℕ → Turn
+refused_end setup live status tries =
+    if is_tried setup.plan status tries then trying (asks.PrmEndAfter (tries + 1)) status live else stays (denied status live)
+
 -- After a negative response.
 abbrev pub undone : Setup → Live → Status → Request → Turn
-undone setup live status (asks.Write number) = past_record setup number (noted status (first_of setup.plan number) live)
+undone setup live status (asks.Write number) = refused_write setup live status number 0 (writing_from setup.plan (number + 1))
+undone setup live status (asks.WriteAfter number tries) = refused_write setup live status number tries (writing_after setup.plan (number + 1) tries)
+undone setup live status asks.PrmEnd = refused_end setup live status 0
+undone setup live status (asks.PrmEndAfter tries) = refused_end setup live status tries
 undone setup live status asks.Connect = refused_connect setup live status
 undone setup live status request = stays (denied status live)
 

@@ -8,7 +8,7 @@ mod requests;
 
 pub use answers::{
     is_addressed, is_answer, is_found, is_held, is_ready, is_refused, is_right, is_set_answer,
-    ready_in,
+    is_tried, ready_in,
 };
 pub use outcomes::{Outcomes, outcomes_of};
-pub use requests::{next_sequence, request_behind};
+pub use requests::{next_sequence, request_after, request_behind};

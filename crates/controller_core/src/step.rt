@@ -17,16 +17,16 @@ ghost use Rattle.controller_core.specs.Machine.{accesses_of, accessing, after_tu
 ghost use Rattle.controller_core.specs.Machine.{acks_of, addressed, alarmed, answered, asking, called, come, connected, connected_by};
 ghost use Rattle.controller_core.specs.Machine.{brought, decided, denied, done, due_frames, ended_by, exchange_later, flowed, found, given};
 ghost use Rattle.controller_core.specs.Machine.{after_write, gone_on, is_again, handled, later, noted, outputs_of, past_record};
-ghost use Rattle.controller_core.specs.Machine.{rated, readied, refused, refused_by, refused_connect, refused_record as ended_by_record, related_by, released, remarked, requests_of, responded, step_of};
+ghost use Rattle.controller_core.specs.Machine.{rated, readied, refused, refused_by, refused_connect, refused_end, refused_record as ended_by_record, refused_write, related_by, released, remarked, requests_of, responded, step_of};
 ghost use Rattle.controller_core.specs.start_up.Answers.{ready_in as block_of_ready};
-ghost use Rattle.controller_core.specs.Machine.{is_spent, quit, ticked, turn_due, turn_of, turned, undone, where_due, writing};
+ghost use Rattle.controller_core.specs.Machine.{is_spent, quit, ticked, trying, turn_due, turn_of, turned, undone, where_due, writing};
 ghost use Rattle.frame_codec.specs.Outbox.{boxed};
 ghost use Rattle.pn_alarms.specs.Sending.{due};
 ghost use Rattle.pn_alarms.specs.Sending.{is_again as is_repeated};
 
 use crate::start_up::{
     Outcomes, is_addressed, is_answer, is_found, is_held, is_ready, is_refused, is_right,
-    is_set_answer, next_sequence, outcomes_of, ready_in, request_behind,
+    is_set_answer, is_tried, next_sequence, outcomes_of, ready_in, request_after, request_behind,
 };
 use crate::stored::{
     SECOND, awaits, cause_of, change, header_of, iops_in, is_alarm, is_limited, left_in, phase_for,
@@ -513,7 +513,9 @@ impl Controller {
             | Request::Address
             | Request::Connect
             | Request::Write(_)
-            | Request::PrmEnd => self.judge(request, response, outbox),
+            | Request::PrmEnd
+            | Request::WriteAfter(_, _)
+            | Request::PrmEndAfter(_) => self.judge(request, response, outbox),
         }
     }
 
@@ -539,14 +541,62 @@ impl Controller {
     {
         match request {
             Request::Write(number) => {
-                let first = first_of(&self.setup.plan, number);
-                self.refuse_record(number, first, status, outbox);
+                let next = request_behind(&self.setup.plan, number);
+                self.refuse_write(number, 0, next, status, outbox);
             }
+            Request::WriteAfter(number, tries) => {
+                let next = request_after(&self.setup.plan, number, tries);
+                self.refuse_write(number, tries, next, status, outbox);
+            }
+            Request::PrmEnd => self.refuse_end(0, status),
+            Request::PrmEndAfter(tries) => self.refuse_end(tries, status),
             Request::Connect => self.refuse_connect(status, outbox),
-            Request::Identify | Request::Address | Request::PrmEnd | Request::Release(_) => {
-                self.deny(status);
-            }
+            Request::Identify | Request::Address | Request::Release(_) => self.deny(status),
         }
+    }
+
+    // The device refuses the Write with this number, after this many calls were refused as busy: tries it again, or refuses its first record,
+    // after which this request follows.
+    fn refuse_write(
+        &mut self,
+        number: u16,
+        tries: u16,
+        next: Request,
+        status: Status,
+        outbox: &mut Outbox,
+    )
+        requires empty { outbox.old.items ≡ [] }
+        ensures state { self.new ≡ with_live self.old (refused_write self.old.setup self.old.live status number tries next).live }
+        ensures frames { boxed outbox.new
+            ≡ map (bytes_of self.old.setup) (refused_write self.old.setup self.old.live status number tries next).sent }
+    {
+        if is_tried(&self.setup.plan, status, tries) {
+            self.try_again(Request::WriteAfter(number, tries + 1), status);
+            return;
+        }
+        let first = first_of(&self.setup.plan, number);
+        self.refuse_record(next, first, status, outbox);
+    }
+
+    // The device refuses PrmEnd, after this many calls were refused as busy: tries it again, or ends.
+    fn refuse_end(&mut self, tries: u16, status: Status)
+        ensures { self.new ≡ with_live self.old (refused_end self.old.setup self.old.live status tries).live }
+    {
+        if is_tried(&self.setup.plan, status, tries) {
+            self.try_again(Request::PrmEndAfter(tries + 1), status);
+        } else {
+            self.deny(status);
+        }
+    }
+
+    // A call is refused as busy. This request is sent with the end of the second, by a new call: the device repeats its answer to a call that it
+    // has answered.
+    fn try_again(&mut self, next: Request, status: Status)
+        ensures { self.new ≡ with_live self.old (trying next status self.old.live).live }
+    {
+        self.asked = Some(next);
+        self.refusal = Some(status);
+        self.access.retry();
     }
 
     // The device refuses the Connect with this status: ends, and informs the device if it holds the relation already.
@@ -563,12 +613,12 @@ impl Controller {
         }
     }
 
-    // The record at this place of the plan, which the Write with this number carried, is refused with this status.
-    fn refuse_record(&mut self, number: u16, place: u32, status: Status, outbox: &mut Outbox)
+    // The record at this place of the plan is refused with this status. The request follows that comes after its Write.
+    fn refuse_record(&mut self, next: Request, place: u32, status: Status, outbox: &mut Outbox)
         requires empty { outbox.old.items ≡ [] }
-        ensures state { self.new ≡ with_live self.old (past_record self.old.setup number (noted status place self.old.live)).live }
+        ensures state { self.new ≡ with_live self.old (past_record self.old.setup next (noted status place self.old.live)).live }
         ensures frames { boxed outbox.new
-            ≡ map (bytes_of self.old.setup) (past_record self.old.setup number (noted status place self.old.live)).sent }
+            ≡ map (bytes_of self.old.setup) (past_record self.old.setup next (noted status place self.old.live)).sent }
     {
         let record = RefusedRecord {
             number: place,
@@ -576,17 +626,16 @@ impl Controller {
         };
         self.refusal = Some(record.status);
         self.refused_record = Some(record);
-        self.pass_record(number, outbox);
+        self.pass_record(next, outbox);
     }
 
-    // After a record that was refused: ends, or goes on with the next Write if the plan says so.
-    fn pass_record(&mut self, number: u16, outbox: &mut Outbox)
+    // After a record that was refused: ends, or goes on with this request if the plan says so.
+    fn pass_record(&mut self, next: Request, outbox: &mut Outbox)
         requires empty { outbox.old.items ≡ [] }
-        ensures state { self.new ≡ with_live self.old (past_record self.old.setup number self.old.live).live }
-        ensures frames { boxed outbox.new ≡ map (bytes_of self.old.setup) (past_record self.old.setup number self.old.live).sent }
+        ensures state { self.new ≡ with_live self.old (past_record self.old.setup next self.old.live).live }
+        ensures frames { boxed outbox.new ≡ map (bytes_of self.old.setup) (past_record self.old.setup next self.old.live).sent }
     {
         if self.setup.plan.continues_on_refused_record() {
-            let next = request_behind(&self.setup.plan, number);
             self.write(next, outbox);
         } else {
             self.end_by_record(outbox);
@@ -660,7 +709,9 @@ impl Controller {
             | Request::Address
             | Request::Connect
             | Request::Write(_)
-            | Request::PrmEnd => self.deny(refusal.status),
+            | Request::PrmEnd
+            | Request::WriteAfter(_, _)
+            | Request::PrmEndAfter(_) => self.deny(refusal.status),
         }
     }
 
@@ -675,10 +726,16 @@ impl Controller {
             Request::Identify | Request::Address => {}
             Request::Connect => self.connect(blocks, outbox),
             Request::Write(number) => {
+                let next = request_behind(&self.setup.plan, number);
                 let outcomes = outcomes_of(&self.setup.plan, number, blocks);
-                self.go_on_writing(number, outcomes, outbox);
+                self.go_on_writing(number, next, outcomes, outbox);
             }
-            Request::PrmEnd => {
+            Request::WriteAfter(number, tries) => {
+                let next = request_after(&self.setup.plan, number, tries);
+                let outcomes = outcomes_of(&self.setup.plan, number, blocks);
+                self.go_on_writing(number, next, outcomes, outbox);
+            }
+            Request::PrmEnd | Request::PrmEndAfter(_) => {
                 self.phase = State::Waiting;
                 self.asked = None;
                 self.left = self.setup.options.waiting_patience;
@@ -688,20 +745,18 @@ impl Controller {
         }
     }
 
-    // The device answered the Write with this number, and this became of its records.
-    fn go_on_writing(&mut self, number: u16, outcomes: Outcomes, outbox: &mut Outbox)
+    // The device answered the Write with this number, and this became of its records. This request follows.
+    fn go_on_writing(&mut self, number: u16, next: Request, outcomes: Outcomes, outbox: &mut Outbox)
         requires empty { outbox.old.items ≡ [] }
-        ensures state { self.new ≡ with_live self.old (after_write self.old.setup self.old.live number outcomes).live }
-        ensures frames { boxed outbox.new ≡ map (bytes_of self.old.setup) (after_write self.old.setup self.old.live number outcomes).sent }
+        ensures state { self.new ≡ with_live self.old (after_write self.old.setup self.old.live number next outcomes).live }
+        ensures frames { boxed outbox.new
+            ≡ map (bytes_of self.old.setup) (after_write self.old.setup self.old.live number next outcomes).sent }
     {
         match outcomes {
-            Outcomes::AllWritten => {
-                let next = request_behind(&self.setup.plan, number);
-                self.write(next, outbox);
-            }
+            Outcomes::AllWritten => self.write(next, outbox),
             Outcomes::Refused(place, status) => {
                 let first = first_of(&self.setup.plan, number);
-                self.refuse_record(number, first + u32::from(place), status, outbox);
+                self.refuse_record(next, first + u32::from(place), status, outbox);
             }
             // This is not an answer: the Write is sent again, and the device repeats its answer.
             Outcomes::Unreadable => {}

@@ -39,6 +39,10 @@ call_number plan calls = (write_count plan + 2 + calls) % 4294967296
 abbrev pub made : RecordRequest → List ℕ → Accessing → Accessing
 made request octets access = record access { calls = (access.calls + 1) % 4294967296; waiting = Some request; answer = None; octets = octets }
 
+-- A call of the start-up was refused as busy: its next try is a call more.
+abbrev pub retried : Accessing → Accessing
+retried access = record access { calls = (access.calls + 1) % 4294967296 }
+
 -- A request is answered with this status and these octets of a record.
 abbrev pub answered_with : RecordRequest → Status → List ℕ → Accessing → Accessing
 answered_with request status octets access =

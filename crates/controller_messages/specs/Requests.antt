@@ -1,5 +1,5 @@
 -- What a controller asks of a device at a start-up, and the messages for it.
-use Rattle.std.specs.Prelude.{◌+◌, ◌-◌, ◌*◌, ◌/◌, ℕ, List, [], ◌∷◌, ◌++◌, length, take, drop, replicate, nat_lt, Option, Some, None, if◌then◌else◌}
+use Rattle.std.specs.Prelude.{◌+◌, ◌-◌, ◌*◌, ◌/◌, ◌%◌, ℕ, List, [], ◌∷◌, ◌++◌, length, take, drop, replicate, nat_lt, Option, Some, None, if◌then◌else◌}
 use Rattle.std.specs.List.{slice_get}
 use Rattle.std.specs.Int.{w16, to_be_bytes}
 use Rattle.dcp_core.specs.declared.kind.Kind.TheVariants.{IpSuite, NameOfStation}
@@ -21,7 +21,7 @@ use Rattle.plans.specs.Connect.{connect_of}
 use Rattle.plans.specs.Numbers.{session_number}
 use Rattle.controller_messages.specs.declared.setup.Setup.{Setup}
 use Rattle.controller_messages.specs.declared.request.Request.{Request}
-use Rattle.controller_messages.specs.declared.request.Request.TheVariants.{Identify, Address, Connect, Write, PrmEnd, Release}
+use Rattle.controller_messages.specs.declared.request.Request.TheVariants.{Identify, Address, Connect, Write, PrmEnd, Release, WriteAfter, PrmEndAfter}
 
 -- ---- the order
 
@@ -46,6 +46,10 @@ group_of plan number = take (per_call plan) (drop (first_of plan number) plan.re
 abbrev pub writing_from : Parts → ℕ → Request
 writing_from plan number = if nat_lt number (write_count plan) then Write number else PrmEnd
 
+-- The same after this many calls were refused as busy.
+abbrev pub writing_after : Parts → ℕ → ℕ → Request
+writing_after plan number tries = if nat_lt number (write_count plan) then WriteAfter number tries else PrmEndAfter tries
+
 -- ---- DCP requests
 
 -- An Identify for the name of the station.
@@ -66,6 +70,8 @@ sequence_of plan Connect = 0
 sequence_of plan (Write number) = number + 1
 sequence_of plan PrmEnd = write_count plan + 1
 sequence_of plan (Release sequence) = sequence
+sequence_of plan (WriteAfter number tries) = number + tries + 1
+sequence_of plan (PrmEndAfter tries) = write_count plan + tries + 1
 
 -- The operation: 0 Connect, 1 Release, 3 Write, 4 Control.
 abbrev pub operation_of : Request → ℕ
@@ -75,6 +81,8 @@ operation_of Connect = 0
 operation_of (Write number) = 3
 operation_of PrmEnd = 4
 operation_of (Release sequence) = 1
+operation_of (WriteAfter number tries) = 3
+operation_of (PrmEndAfter tries) = 4
 
 -- The object that is called: DEA00000-6C97-11D1-8271, then the instance, 1, DeviceID and VendorID of the plan.
 unfoldable pub object_of : Station → List ℕ
@@ -151,11 +159,19 @@ list_blocks setup number (entry ∷ entries) =
     block_bytes (is.IodWriteReq (list_of setup number (length (entries_bytes setup number (entry ∷ entries)))))
     ++ entries_bytes setup number (entry ∷ entries)
 
--- The blocks of a Write: those of a list, or of the one record.
+-- The blocks of the records of a Write: those of a list, or of the one record. SeqNumber is one more than `call`.
+abbrev pub written_by : Setup → ℕ → ℕ → List ℕ
+written_by setup call number =
+    if setup.plan.multiple_write then list_blocks setup call (group_of setup.plan number)
+    else write_blocks setup call (slice_get setup.plan.records.items number)
+
+-- The blocks of a Write: SeqNumber is the number of its call.
 abbrev pub writing_blocks : Setup → ℕ → List ℕ
-writing_blocks setup number =
-    if setup.plan.multiple_write then list_blocks setup number (group_of setup.plan number)
-    else write_blocks setup number (slice_get setup.plan.records.items number)
+writing_blocks setup number = written_by setup number number
+
+-- The blocks of a Write after this many calls were refused as busy. SeqNumber is the number of its call; after 65,535 it is 1 again.
+abbrev pub rewriting_blocks : Setup → ℕ → ℕ → List ℕ
+rewriting_blocks setup number tries = written_by setup ((number + tries) % 65535) number
 
 -- ---- the blocks of a call
 
@@ -167,6 +183,8 @@ blocks_of setup Connect = connect_of setup.plan setup.ar
 blocks_of setup (Write number) = writing_blocks setup number
 blocks_of setup PrmEnd = block_bytes (is.PrmEnd (control_of setup 1))
 blocks_of setup (Release sequence) = block_bytes (is.Release (control_of setup 4))
+blocks_of setup (WriteAfter number tries) = rewriting_blocks setup number tries
+blocks_of setup (PrmEndAfter tries) = block_bytes (is.PrmEnd (control_of setup 1))
 
 -- The call: its response may have 1,372 octets of blocks.
 abbrev pub call_for : Setup → Request → Call

@@ -71,6 +71,8 @@ request_frame setup device asks.Connect = call_frame setup device (call_for setu
 request_frame setup device (asks.Write number) = call_frame setup device (call_for setup (asks.Write number))
 request_frame setup device asks.PrmEnd = call_frame setup device (call_for setup asks.PrmEnd)
 request_frame setup device (asks.Release sequence) = call_frame setup device (call_for setup (asks.Release sequence))
+request_frame setup device (asks.WriteAfter number tries) = call_frame setup device (call_for setup (asks.WriteAfter number tries))
+request_frame setup device (asks.PrmEndAfter tries) = call_frame setup device (call_for setup (asks.PrmEndAfter tries))
 
 -- ---- the answer to ApplicationReady
 

@@ -2,7 +2,7 @@
 //! written after a plug.
 ghost use Rattle.std.specs.Prelude.{◌≡◌, ◌≤◌, IfSome, length, option_map};
 ghost use Rattle.block_codec.specs.Block.{block_of};
-ghost use Rattle.controller_messages.specs.Access.{answered_with, call_number, dropped, is_free, is_rejected, is_reply, made, no_access, plugged, record_by, record_in, record_of, unplugged};
+ghost use Rattle.controller_messages.specs.Access.{answered_with, call_number, dropped, is_free, is_rejected, is_reply, made, no_access, plugged, record_by, record_in, record_of, retried, unplugged};
 
 use crate::plug_request::PlugRequest;
 use crate::record_request::{MOST_RECORD_OCTETS, RecordRequest};
@@ -129,6 +129,13 @@ impl Access {
         self.answer = None;
         self.octets.clear();
         append(&mut self.octets, octets);
+    }
+
+    /// A call of the start-up was refused as busy: its next try is a call more.
+    pub fn retry(&mut self)
+        ensures { self.new ≡ retried self.old }
+    {
+        self.calls = self.calls.wrapping_add(1);
     }
 
     /// The request is answered with this status and this record.

@@ -8,7 +8,7 @@ ghost use Rattle.frame_codec.specs.Outbox.{boxed};
 
 use crate::request::Request;
 use crate::setup::Setup;
-use crate::writes::put_write;
+use crate::writes::{put_write, put_write_again};
 use arrayvec::ArrayVec;
 use block_codec::{Block, ControlBlock, write_block};
 use connect_blocks::control_len;
@@ -99,6 +99,8 @@ fn put_blocks(setup: &Setup, request: Request, blocks: &mut ArrayVec<u8, 1372>)
         Request::Write(number) => put_write(setup, number, blocks),
         Request::PrmEnd => put_prm_end(setup, blocks),
         Request::Release(_) => put_release(setup, blocks),
+        Request::WriteAfter(number, tries) => put_write_again(setup, number, tries, blocks),
+        Request::PrmEndAfter(_) => put_prm_end(setup, blocks),
     }
 }
 

@@ -20,6 +20,10 @@ pub enum Request {
     PrmEnd,
     /// Release: end the relation, with a call of this number.
     Release(u32),
+    /// The Write with this number, after this many calls of the start-up were refused as busy.
+    WriteAfter(u16, u16),
+    /// PrmEnd, after this many calls of the start-up were refused as busy.
+    PrmEndAfter(u16),
 }
 
 impl Request {
@@ -44,6 +48,8 @@ impl Request {
             Request::Write(number) => number as u32 + 1,
             Request::PrmEnd => write_count(plan) + 1,
             Request::Release(sequence) => sequence,
+            Request::WriteAfter(number, tries) => u32::from(number) + u32::from(tries) + 1,
+            Request::PrmEndAfter(tries) => write_count(plan) + u32::from(tries) + 1,
         }
     }
 
@@ -54,8 +60,8 @@ impl Request {
         match self {
             Request::Identify | Request::Address | Request::Connect => 0,
             Request::Release(_) => 1,
-            Request::Write(_) => 3,
-            Request::PrmEnd => 4,
+            Request::Write(_) | Request::WriteAfter(_, _) => 3,
+            Request::PrmEnd | Request::PrmEndAfter(_) => 4,
         }
     }
 }

@@ -140,5 +140,11 @@ pub fn send_request(setup: &Setup, device: Mac, request: Request, outbox: &mut O
         Request::Write(number) => send_call(setup, device, Request::Write(number), outbox),
         Request::PrmEnd => send_call(setup, device, Request::PrmEnd, outbox),
         Request::Release(sequence) => send_call(setup, device, Request::Release(sequence), outbox),
+        Request::WriteAfter(number, tries) => {
+            send_call(setup, device, Request::WriteAfter(number, tries), outbox)
+        }
+        Request::PrmEndAfter(tries) => {
+            send_call(setup, device, Request::PrmEndAfter(tries), outbox)
+        }
     }
 }

@@ -41,10 +41,10 @@ use Rattle.controller_core.specs.stored.Alarms.{ack_of, kept_alarm}
 use Rattle.controller_core.specs.start_up.Answers.{is_answer, is_call}
 use Rattle.controller_core.specs.start_up.Outcomes.{are_written}
 use Rattle.controller_core.specs.Machine.{Turn, stays, noted, released, writing, standing, end_of, with_end, keeping, acking, after_turn, asks_next, behind_data, behind_ack, can_begin, diagnosing, confirming, taken, is_again, later, where_due, requests_of, accesses_by, accesses_of, plug_readied, plugs_by, plugs_of, pending_by, pending_of, acks_in, acks_of, outputs_of, flow_later, due_frames, brought, turn_of}
-use Rattle.controller_core.specs.start_up.Requests.{next_sequence}
+use Rattle.controller_core.specs.start_up.Requests.{next_sequence, end_after, tried_as, write_after}
 use Rattle.end_laws.specs.turns.Beside.{IsBegun, MayBegin, MayFollow, flow_begun}
 use Rattle.end_laws.specs.turns.Ended.{IsReleased}
-use Rattle.end_laws.specs.turns.Turns.{Came, Hears, IsGranted, IsKind, IsReadied, IsSkipped, IsTurn, Kind, Rests, Connects, Addresses, Ends, Releases, Relates, Writes, Skips, Waits, Forgets, Begins, Repeats, Takes, IsAcked, Asks, IsReplied, IsPlugAnswered, IsPlugReadied, Flows, Breaks, Idles, came_by, turn_by}
+use Rattle.end_laws.specs.turns.Turns.{Came, Hears, IsGranted, IsKind, IsReadied, IsSkipped, IsTurn, Kind, Rests, Connects, Addresses, Ends, Releases, Relates, Writes, Skips, Tries, Waits, Forgets, Begins, Repeats, Takes, IsAcked, Asks, IsReplied, IsPlugAnswered, IsPlugReadied, Flows, Breaks, Idles, came_by, turn_by}
 use Rattle.end_laws.proofs.TurnsBeside.{flows, follows}
 use Rattle.end_laws.specs.both.Small as small
 use Rattle.end_laws.specs.both.Small.{Controller, ToController, ToDevice}
@@ -129,6 +129,8 @@ module _ (setup : Setup) where
   Tells phase asked asks.Connect = state_of setup.plan phase asked ≡ small.Asking 0
   Tells phase asked (asks.Write number) = (number < write_count setup.plan) × (state_of setup.plan phase asked ≡ small.Asking (number + 1))
   Tells phase asked asks.PrmEnd = state_of setup.plan phase asked ≡ small.Asking (write_count setup.plan + 1)
+  Tells phase asked (asks.WriteAfter number tries) = (number < write_count setup.plan) × (state_of setup.plan phase asked ≡ small.Asking (number + tries + 1))
+  Tells phase asked (asks.PrmEndAfter tries) = state_of setup.plan phase asked ≡ small.Asking (write_count setup.plan + tries + 1)
   Tells phase asked (asks.Release sequence) = IsInStep setup.plan phase None × (state_of setup.plan phase None ≡ small.Ended)
 
   tells_so : (phase : State) (asked : Option Request) (one request : Request) → asked ≡ Some one → Tells phase asked one → asked ≡ Some request → Tells phase asked request
@@ -140,16 +142,60 @@ module _ (setup : Setup) where
   none_some : {A : Type 0} (request : A) → Some request ≡ None → ⊥
   none_some request e = absurd cc
 
+  -- a Write, and PrmEnd
+  tells_write : (asked : Option Request) (number : ℕ) (tries : Option ℕ) (request : Request) → number < write_count setup.plan → asked ≡ Some (write_after number tries)
+      → asked ≡ Some request → Tells Writing asked request
+  tells_write asked number None request below is stands =
+      tells_so Writing asked (asks.Write number) request is (below, ap (λ (a : Option Request). asking_of setup.plan a) is) stands
+  tells_write asked number (Some tries) request below is stands =
+      tells_so Writing asked (asks.WriteAfter number tries) request is (below, ap (λ (a : Option Request). asking_of setup.plan a) is) stands
+
+  tells_end : (asked : Option Request) (tries : Option ℕ) (request : Request) → asked ≡ Some (end_after tries) → asked ≡ Some request → Tells Ending asked request
+  tells_end asked None request is stands = tells_so Ending asked asks.PrmEnd request is (ap (λ (a : Option Request). asking_of setup.plan a) is) stands
+  tells_end asked (Some tries) request is stands =
+      tells_so Ending asked (asks.PrmEndAfter tries) request is (ap (λ (a : Option Request). asking_of setup.plan a) is) stands
+
+  -- the request that is sent after one was refused as busy belongs to the same state
+  not_tried : (one request next : Request) → tried_as one ≡ None → Some one ≡ Some request → tried_as request ≡ Some next → ⊥
+  not_tried one request next none same e = never (sym none ∙ (ap tried_as (some_is one request same) ∙ e))
+    where
+      never : None ≡ Some next → ⊥
+      never f = cc
+
+  tried_write : (number : ℕ) (tries : Option ℕ) (next : Request) → tried_as (write_after number tries) ≡ Some next
+      → (more : Option ℕ) × (Some next ≡ Some (write_after number more))
+  tried_write number None next e = (Some 1, sym e)
+  tried_write number (Some tries) next e = (Some (tries + 1), sym e)
+
+  tried_end : (tries : Option ℕ) (next : Request) → tried_as (end_after tries) ≡ Some next → (more : Option ℕ) × (Some next ≡ Some (end_after more))
+  tried_end None next e = (Some 1, sym e)
+  tried_end (Some tries) next e = (Some (tries + 1), sym e)
+
+  tried_in_step : (phase : State) (asked : Option Request) (request next : Request) → IsInStep setup.plan phase asked → asked ≡ Some request
+      → tried_as request ≡ Some next → IsInStep setup.plan phase (Some next)
+  tried_in_step Looking asked request next is stands e = absurd (not_tried asks.Identify request next refl (sym is ∙ stands) e)
+  tried_in_step Addressing asked request next is stands e = absurd (not_tried asks.Address request next refl (sym is ∙ stands) e)
+  tried_in_step Connecting asked request next is stands e = absurd (not_tried asks.Connect request next refl (sym is ∙ stands) e)
+  tried_in_step Writing asked request next is stands e =
+      let same = some_is (write_after is.0 is.1) request (sym is.3 ∙ stands) in
+      let more = tried_write is.0 is.1 next (ap tried_as same ∙ e) in
+      (is.0, more.0, is.2, more.1)
+  tried_in_step Ending asked request next is stands e =
+      let same = some_is (end_after is.0) request (sym is.1 ∙ stands) in
+      tried_end is.0 next (ap tried_as same ∙ e)
+  tried_in_step (Ended reason) asked request next (inl none) stands e = absurd (none_stands request (sym none ∙ stands))
+  tried_in_step (Ended reason) asked request next (inr there) stands e = absurd (not_tried (asks.Release there.0) request next refl (sym there.1 ∙ stands) e)
+  tried_in_step Waiting asked request next is stands e = absurd (none_stands request (sym is ∙ stands))
+  tried_in_step Exchanging asked request next is stands e = absurd (none_stands request (sym is ∙ stands))
+
   -- the request that belongs to each state
   tells : (phase : State) (asked : Option Request) → IsInStep setup.plan phase asked → (request : Request) → asked ≡ Some request → Tells phase asked request
   tells Looking asked in_step request stands = tells_so Looking asked asks.Identify request in_step tt stands
   tells Addressing asked in_step request stands = tells_so Addressing asked asks.Address request in_step tt stands
   tells Connecting asked in_step request stands =
       tells_so Connecting asked asks.Connect request in_step (ap (λ (a : Option Request). asking_of setup.plan a) in_step) stands
-  tells Writing asked in_step request stands =
-      tells_so Writing asked (asks.Write in_step.0) request in_step.2 (in_step.1, ap (λ (a : Option Request). asking_of setup.plan a) in_step.2) stands
-  tells Ending asked in_step request stands =
-      tells_so Ending asked asks.PrmEnd request in_step (ap (λ (a : Option Request). asking_of setup.plan a) in_step) stands
+  tells Writing asked in_step request stands = tells_write asked in_step.0 in_step.1 request in_step.2 in_step.3 stands
+  tells Ending asked in_step request stands = tells_end asked in_step.0 request in_step.1 stands
   tells (Ended reason) asked (inl none) request stands = absurd (none_stands request (sym none ∙ stands))
   tells (Ended reason) asked (inr there) request stands = tells_so (Ended reason) asked (asks.Release there.0) request there.1 (inl refl, refl) stands
   tells phase asked in_step request stands = absurd (none_stands request (sym in_step ∙ stands))
@@ -161,20 +207,35 @@ module _ (setup : Setup) where
     writing_by : (b : Bool) → nat_lt number (write_count setup.plan) ≡ b
         → GoesOn setup.plan heard live (writing setup (cond b (asks.Write number) asks.PrmEnd) after)
     writing_by true below = record {
-      in_step = record { asked = (number, ltb-true number (write_count setup.plan) below, refl); waiting = idle; plug = free };
+      in_step = record { asked = (number, None, ltb-true number (write_count setup.plan) below, refl); waiting = idle; plug = free };
       moves = inr (inr (inr (inl (record { sequence = number; positive = positive; asked = before; answered = answers; granted = granted; becomes = inl (few, refl) }))));
       says = (inr (inl (refl, (ltb-true number (write_count setup.plan) below, refl))), tt);
     }
     writing_by false above =
         let last : write_count setup.plan ≡ number = omega (arith, few, ltb-false number (write_count setup.plan) above) in
         record {
-          in_step = record { asked = refl; waiting = idle; plug = free };
+          in_step = record { asked = (None, refl); waiting = idle; plug = free };
           moves = inr (inr (inr (inl (record { sequence = number; positive = positive; asked = before; answered = answers; granted = granted; becomes = inl (few, ap (λ (n : ℕ). small.Asking (n + 1)) last) }))));
           says = (inr (inl (refl, refl)), tt);
         }
 
     writing_goes : GoesOn setup.plan heard live (writing setup (writing_from setup.plan number) after)
     writing_goes = writing_by (nat_lt number (write_count setup.plan)) refl
+
+  -- OPEN: the small machine has no tries: `Asking` and `IsAsked` know the number of the Write by the sequence number alone
+  rewriting_by : (live after : Live) (number tries : ℕ) (heard : ToController) → after.access.waiting ≡ None → after.access.plug ≡ None
+      → (b : Bool) → nat_lt number (write_count setup.plan) ≡ b
+      → GoesOn setup.plan heard live (writing setup (cond b (asks.WriteAfter number tries) (asks.PrmEndAfter tries)) after)
+  rewriting_by live after number tries heard idle free true below = record {
+    in_step = record { asked = (number, Some tries, ltb-true number (write_count setup.plan) below, refl); waiting = idle; plug = free };
+    moves = ?;
+    says = ?;
+  }
+  rewriting_by live after number tries heard idle free false above = record {
+    in_step = record { asked = (Some tries, refl); waiting = idle; plug = free };
+    moves = ?;
+    says = ?;
+  }
 
   -- whether the response to a request says that all went well
   abbrev is_well : Request → Response → Bool
@@ -261,6 +322,8 @@ module _ (setup : Setup) where
   request_says phase asked (asks.Write number) reported = inr (inl (reported.1, (reported.0, refl)))
   request_says phase asked asks.PrmEnd reported = inr (inl (reported, refl))
   request_says phase asked (asks.Release sequence) reported = inl refl
+  request_says phase asked (asks.WriteAfter number tries) reported = ?
+  request_says phase asked (asks.PrmEndAfter tries) reported = ?
 
   abbrev AreSaid : Controller → List Sent → Type 0
   AreSaid now sent = AllByRecursion (λ message. SaysToDevice (write_count setup.plan) now (said_by setup.plan message)) sent
@@ -436,8 +499,9 @@ module _ (setup : Setup) where
         ∙ ap (λ (d : Bool). small.Answers (sequence_of setup.plan request) (d && says_written setup.plan (sequence_of setup.plan request) g.response.blocks)) g.granted
         ∙ ap (λ (d : Bool). small.Answers (sequence_of setup.plan request) d) says
 
-    skipped_said : (number : ℕ) → (s : IsSkipped setup live came number) → heard ≡ small.Answers (sequence_of setup.plan (asks.Write number)) (is_well (asks.Write number) s.response)
-    skipped_said number s = ap said_of s.comes ∙ is_heard (asks.Write number) s.response s.right
+    skipped_said : (number : ℕ) (tries : Option ℕ) → (s : IsSkipped setup live came number tries)
+        → heard ≡ small.Answers (sequence_of setup.plan (write_after number tries)) (is_well (write_after number tries) s.response)
+    skipped_said number tries s = ap said_of s.comes ∙ is_heard (write_after number tries) s.response s.right
 
     readied_said : (caller : Caller) (call : Call) (block : ControlBlock) → IsReadied setup came caller call block → heard ≡ small.Readies
     readied_said caller call block ready =
@@ -460,16 +524,38 @@ module _ (setup : Setup) where
         let granted = holds.0 in
         writing_goes live (standing setup (record live { places = places }) chosen) 0 heard true (tells live.phase live.asked in_step asks.Connect granted.stood) (granted_said asks.Connect granted refl) (inl refl) (omega arith)
         (idle_asked asks.Connect granted.stood) (free_asked asks.Connect granted.stood)
-    kind_goes (Writes number) holds =
+    kind_goes (Writes number None) holds =
         let granted = holds.0 in
         let there = tells live.phase live.asked in_step (asks.Write number) granted.stood in
         writing_goes live live (number + 1) heard true there.1 (granted_said (asks.Write number) granted (write_says number granted.response.blocks holds.1)) (inl refl)
         (omega (arith, there.0)) (idle_asked (asks.Write number) granted.stood) (free_asked (asks.Write number) granted.stood)
-    kind_goes (Skips number refused status) holds =
+    kind_goes (Skips number None refused status) holds =
         let there = tells live.phase live.asked in_step (asks.Write number) holds.stood in
-        writing_goes live (noted status refused live) (number + 1) heard (is_well (asks.Write number) holds.response) there.1 (skipped_said number holds) (inr holds.goes_on) (omega (arith, there.0))
+        writing_goes live (noted status refused live) (number + 1) heard (is_well (asks.Write number) holds.response) there.1 (skipped_said number None holds) (inr holds.goes_on) (omega (arith, there.0))
         (idle_asked (asks.Write number) holds.stood) (free_asked (asks.Write number) holds.stood)
-    kind_goes Waits holds = record {
+    kind_goes (Writes number (Some tries)) holds =
+        let request = asks.WriteAfter number tries in
+        rewriting_by live live (number + 1) tries heard (idle_asked request holds.0.stood) (free_asked request holds.0.stood)
+        (nat_lt (number + 1) (write_count setup.plan)) refl
+    kind_goes (Skips number (Some tries) refused status) holds =
+        let request = asks.WriteAfter number tries in
+        rewriting_by live (noted status refused live) (number + 1) tries heard (idle_asked request holds.stood) (free_asked request holds.stood)
+        (nat_lt (number + 1) (write_count setup.plan)) refl
+    kind_goes (Tries next status) holds = record {
+      in_step = record {
+        asked = tried_in_step live.phase live.asked holds.request next in_step holds.stood holds.tries;
+        waiting = steady.waiting;
+        plug = steady.plug;
+      };
+      moves = ?;
+      says = tt;
+    }
+    kind_goes (Waits (Some tries)) holds = record {
+      in_step = record { asked = refl; waiting = idle_asked (asks.PrmEndAfter tries) holds.stood; plug = free_asked (asks.PrmEndAfter tries) holds.stood };
+      moves = ?;
+      says = tt;
+    }
+    kind_goes (Waits None) holds = record {
       in_step = record { asked = refl; waiting = idle_asked asks.PrmEnd holds.stood; plug = free_asked asks.PrmEnd holds.stood };
       moves = inr (inr (inr (inl (record {
         sequence = write_count setup.plan + 1;

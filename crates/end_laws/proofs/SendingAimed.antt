@@ -38,17 +38,17 @@ use Rattle.controller_core.specs.declared.stored.state.State.{State}
 use Rattle.controller_core.specs.declared.stored.state.State.TheVariants.{Addressing, Connecting, Ended, Exchanging, Waiting}
 use Rattle.controller_core.specs.stored.State.{Live}
 use Rattle.end_laws.specs.turns.Beside.{IsBegun, MayBegin, MayFollow, flow_begun}
-use Rattle.end_laws.specs.turns.Turns.{Came, Hears, IsKind, IsReadied, IsTurn, Kind, Rests, Connects, Addresses, Ends, Releases, Relates, Writes, Skips, Waits, Forgets, Begins, Repeats, Follows, Takes, IsAcked, Asks, IsReplied, IsPlugAnswered, IsPlugReadied, Gives, GivesStatus, Flows, Breaks, Idles, came_by, turn_by}
+use Rattle.end_laws.specs.turns.Turns.{Came, Hears, IsKind, IsReadied, IsTurn, Kind, Rests, Connects, Addresses, Ends, Releases, Relates, Writes, Skips, Tries, Waits, Forgets, Begins, Repeats, Follows, Takes, IsAcked, Asks, IsReplied, IsPlugAnswered, IsPlugReadied, Gives, GivesStatus, Flows, Breaks, Idles, came_by, turn_by}
 use Rattle.frame_codec.specs.Sendable.{IsMac}
 use Rattle.connects.specs.answers.Connect.{Chosen}
 use Rattle.controller_core.specs.Machine.{Turn, accesses_by, accesses_of, acking, acks_in, acks_of, after_turn, asking, asks_next, behind_data, brought, can_begin, confirming, diagnosing, due_frames, end_of, first, flow_later, is_again, is_end_of, keeping, noted, over, pending_by, pending_of, plug_readied, plugs_by, plugs_of, released, requests_of, standing, stays, taken, turn_of, where_due, with_end, writing}
-use Rattle.controller_core.specs.start_up.Requests.{next_sequence}
+use Rattle.controller_core.specs.start_up.Requests.{behind_write, next_sequence, write_after}
 use Rattle.controller_core.specs.stored.State.{phase_for}
 use Rattle.controller_core.specs.stored.Alarms.{ack_of}
 use Rattle.end_laws.specs.hearing.Stations.{IsRecordCall, IsSetup}
 use Rattle.end_laws.specs.sending.Addressed.{IsAimed, IsAimedAt, IsDirection, IsEventFrom, IsHeardFrom}
 use Rattle.end_laws.specs.sending.Sized.{AreFew, IsAccess, IsFew, IsPlugging, IsWaiting}
-use Rattle.end_laws.proofs.SendingSizes.{BlocksAreLong, CameSo, Stays, all_append, answer_can, due_all, frame_stays, named_so, number_few, numbered, plug_answer_can, sequence_few, writing_few}
+use Rattle.end_laws.proofs.SendingSizes.{BlocksAreLong, CameSo, Stays, all_append, answer_can, due_all, frame_stays, named_so, number_few, numbered, plug_answer_can, sequence_few, writing_few, behind_few, few_so, tried_few}
 use Rattle.end_laws.proofs.SendingTurns.{answered_access, none_waits, stepped_access}
 use Rattle.end_laws.proofs.TurnsBeside.{flows as flows_so, follows}
 
@@ -75,11 +75,10 @@ module _ (mac : Mac) where
 
   released_sent : (setup : Setup) (why : Cause) (live : Live) → IsSetup setup → IsAimed live → IsSent mac (released setup why live)
   released_sent setup why live good is =
-      asking_sent setup (Ended why) (asks.Release (next_sequence setup.plan live.access.calls live.asked)) (over why live) (over_aimed why live is) (sequence_few setup.plan live.access.calls live.asked is.asked)
+      asking_sent setup (Ended why) (asks.Release (next_sequence setup.plan live.access.calls live.asked)) (over why live) (over_aimed why live is) (sequence_few setup.plan live.access.calls live.asked good.plan is.asked)
 
-  writing_sent : (setup : Setup) (number : ℕ) (live : Live) → IsSetup setup → IsAimed live → IsSent mac (writing setup (writing_from setup.plan number) live)
-  writing_sent setup number live good is =
-      asking_sent setup (phase_for (writing_from setup.plan number)) (writing_from setup.plan number) live is (writing_few setup.plan number good.plan)
+  writing_sent : (setup : Setup) (next : Request) (live : Live) → IsFew next → IsAimed live → IsSent mac (writing setup next live)
+  writing_sent setup next live few is = asking_sent setup (phase_for next) next live is few
 
   stands_aimed : (setup : Setup) (live : Live) (chosen : Chosen) → IsAimed live → IsAimed (standing setup live chosen)
   stands_aimed setup live chosen is = record { device = is.device; asked = is.asked; way = record { partner = is.device; sent_tag = omega arith; alarm_tag = omega arith }; access = is.access }
@@ -208,11 +207,25 @@ module _ (mac : Mac) where
         released_sent setup why (record live { refusal = refusal; refused_record = refused; units = units }) good (record { device = is.device; asked = is.asked; way = is.way; access = is.access })
     kind_sent (Relates places chosen) holds =
         let placed : Live = record live { places = places } in
-        writing_sent setup 0 (standing setup placed chosen) good
+        writing_sent setup (writing_from setup.plan 0) (standing setup placed chosen) (writing_few setup.plan 0 good.plan)
         (stands_aimed setup placed chosen (record { device = is.device; asked = is.asked; way = is.way; access = is.access }))
-    kind_sent (Writes number) holds = writing_sent setup (number + 1) live good is
-    kind_sent (Skips number refused status) holds = writing_sent setup (number + 1) (noted status refused live) good (record { device = is.device; asked = is.asked; way = is.way; access = is.access })
-    kind_sent Waits holds = record { live = unasked live Waiting setup.options.waiting_patience is; sent = tt }
+    kind_sent (Writes number tries) holds =
+        writing_sent setup (behind_write setup.plan number tries) live
+        (behind_few setup.plan number tries good.plan (few_so live.asked (write_after number tries) holds.0.stood is.asked)) is
+    kind_sent (Skips number tries refused status) holds =
+        writing_sent setup (behind_write setup.plan number tries) (noted status refused live)
+        (behind_few setup.plan number tries good.plan (few_so live.asked (write_after number tries) holds.stood is.asked))
+        (record { device = is.device; asked = is.asked; way = is.way; access = is.access })
+    kind_sent (Tries next status) holds = record {
+      live = record {
+        device = is.device;
+        asked = tried_few setup.plan status holds.request next holds.tries holds.again (few_so live.asked holds.request holds.stood is.asked);
+        way = is.way;
+        access = is.access;
+      };
+      sent = tt;
+    }
+    kind_sent (Waits tries) holds = record { live = unasked live Waiting setup.options.waiting_patience is; sent = tt }
     kind_sent Forgets holds = record { live = unasked live live.phase live.left is; sent = tt }
     kind_sent (Begins caller call block) holds = record { live = begun_aimed live is; sent = (agrees caller call block holds.1, tt) }
     kind_sent (Repeats caller call block) holds = record { live = is; sent = (agrees caller call block holds.1, tt) }

@@ -45,19 +45,19 @@ use Rattle.controller_core.specs.declared.stored.state.State.{State}
 use Rattle.controller_core.specs.declared.stored.state.State.TheVariants.{Addressing, Connecting, Ended, Exchanging, Waiting}
 use Rattle.controller_core.specs.stored.State.{Live}
 use Rattle.end_laws.specs.turns.Beside.{IsBegun, MayBegin, MayFollow, flow_begun}
-use Rattle.end_laws.specs.turns.Turns.{Came, Hears, IsKind, IsReadied, IsStepped, IsTurn, Kind, Rests, Connects, Addresses, Ends, Releases, Relates, Writes, Skips, Waits, Forgets, Begins, Repeats, Follows, Takes, IsAcked, Asks, IsReplied, IsPlugAnswered, IsPlugReadied, Gives, GivesStatus, Flows, Breaks, Idles, came_by, turn_by}
+use Rattle.end_laws.specs.turns.Turns.{Came, Hears, IsKind, IsReadied, IsStepped, IsTurn, Kind, Rests, Connects, Addresses, Ends, Releases, Relates, Writes, Skips, Tries, Waits, Forgets, Begins, Repeats, Follows, Takes, IsAcked, Asks, IsReplied, IsPlugAnswered, IsPlugReadied, Gives, GivesStatus, Flows, Breaks, Idles, came_by, turn_by}
 use Rattle.frame_codec.specs.Sendable.{IsMac}
 use Rattle.controller_core.specs.stored.Alarms.{ack_of, header_of}
 use Rattle.connects.specs.answers.Connect.{Chosen}
 use Rattle.controller_core.specs.Machine.{Turn, accesses_by, accesses_of, acking, acks_in, acks_of, after_turn, asking, asks_next, behind_ack, behind_data, brought, can_begin, confirming, diagnosing, due_frames, end_of, first, flow_later, given, is_again, is_end_of, keeping, later, noted, over, pending_by, pending_of, plug_readied, plugs_by, plugs_of, rated, released, requests_of, standing, stays, taken, turn_of, where_due, with_end, writing}
-use Rattle.controller_core.specs.start_up.Requests.{next_sequence}
+use Rattle.controller_core.specs.start_up.Requests.{behind_write, next_sequence, write_after}
 use Rattle.controller_core.specs.stored.State.{phase_for}
 use Rattle.diagnosis.specs.Sendable.{IsHeader}
 use Rattle.block_codec.specs.Writable.{IsAck}
 use Rattle.end_laws.specs.hearing.Stations.{IsRecordCall, IsSetup}
 use Rattle.end_laws.specs.sending.Messages.{CanBeSent, IsWay}
 use Rattle.end_laws.specs.sending.Sized.{AreFew, IsAccess, IsAckOrNone, IsFew, IsLive, IsNoted, IsPlugging, IsShort, IsSized, IsSizedEnd, IsSizedEvent, IsWaiting}
-use Rattle.end_laws.proofs.SendingSizes.{BlocksAreLong, CameSo, Stays, all_append, answer_can, body_few, due_all, frame_stays, named_so, next_short, number_few, numbered, plug_answer_can, sequence_few, writing_few}
+use Rattle.end_laws.proofs.SendingSizes.{BlocksAreLong, CameSo, Stays, all_append, answer_can, behind_few, body_few, due_all, frame_stays, named_so, next_short, number_few, numbered, plug_answer_can, sequence_few, writing_few, few_so, tried_few}
 use Rattle.end_laws.proofs.TurnsBeside.{flows as flows_so, follows}
 
 -- a turn after which everything has its size
@@ -87,11 +87,10 @@ over_live cause_is live is = record { device = is.device; asked = tt; way = is.w
 
 released_right : (setup : Setup) (cause_is : Cause) (live : Live) → IsSetup setup → IsLive live → IsRight setup (released setup cause_is live)
 released_right setup cause_is live good is =
-    asking_right setup (Ended cause_is) (asks.Release (next_sequence setup.plan live.access.calls live.asked)) (over cause_is live) (over_live cause_is live is) (sequence_few setup.plan live.access.calls live.asked is.asked)
+    asking_right setup (Ended cause_is) (asks.Release (next_sequence setup.plan live.access.calls live.asked)) (over cause_is live) (over_live cause_is live is) (sequence_few setup.plan live.access.calls live.asked good.plan is.asked)
 
-writing_right : (setup : Setup) (number : ℕ) (live : Live) → IsSetup setup → IsLive live → IsRight setup (writing setup (writing_from setup.plan number) live)
-writing_right setup number live good is =
-    asking_right setup (phase_for (writing_from setup.plan number)) (writing_from setup.plan number) live is (writing_few setup.plan number good.plan)
+writing_right : (setup : Setup) (next : Request) (live : Live) → IsFew next → IsLive live → IsRight setup (writing setup next live)
+writing_right setup next live few is = asking_right setup (phase_for next) next live is few
 
 stands_live : (setup : Setup) (live : Live) (chosen : Chosen) → IsLive live → (chosen.frame_id < 65536) × (chosen.reference < 65536) → IsLive (standing setup live chosen)
 stands_live setup live chosen is small = record {
@@ -352,11 +351,27 @@ module _ (long : BlocksAreLong) (setup : Setup) (live : Live) (came : Came) (goo
       let sized_so : IsSized (Responds holds.0.response) = reported (Hears (Responds holds.0.response)) holds.0.comes in
       let placed : Live = record live { places = places } in
       let same : IsLive placed = record { device = is.device; asked = is.asked; way = is.way; few = is.few; high = is.high; low = is.low; access = is.access } in
-      writing_right setup 0 (standing setup placed chosen) good (stands_live setup placed chosen same (sized_so chosen holds.1))
-  kind_right (Writes number) holds = writing_right setup (number + 1) live good is
-  kind_right (Skips number refused status) holds = writing_right setup (number + 1) (noted status refused live) good
+      writing_right setup (writing_from setup.plan 0) (standing setup placed chosen) (writing_few setup.plan 0 good.plan) (stands_live setup placed chosen same (sized_so chosen holds.1))
+  kind_right (Writes number tries) holds =
+      writing_right setup (behind_write setup.plan number tries) live
+      (behind_few setup.plan number tries good.plan (few_so live.asked (write_after number tries) holds.0.stood is.asked)) is
+  kind_right (Skips number tries refused status) holds =
+      writing_right setup (behind_write setup.plan number tries) (noted status refused live)
+      (behind_few setup.plan number tries good.plan (few_so live.asked (write_after number tries) holds.stood is.asked))
       (record { device = is.device; asked = is.asked; way = is.way; few = is.few; high = is.high; low = is.low; access = is.access })
-  kind_right Waits holds = record { live = unasked live Waiting setup.options.waiting_patience is; sent = tt }
+  kind_right (Tries next status) holds = record {
+    live = record {
+      device = is.device;
+      asked = tried_few setup.plan status holds.request next holds.tries holds.again (few_so live.asked holds.request holds.stood is.asked);
+      way = is.way;
+      few = is.few;
+      high = is.high;
+      low = is.low;
+      access = is.access;
+    };
+    sent = tt;
+  }
+  kind_right (Waits tries) holds = record { live = unasked live Waiting setup.options.waiting_patience is; sent = tt }
   kind_right Forgets holds = record { live = unasked live live.phase live.left is; sent = tt }
   kind_right (Begins caller call block) holds = record { live = begun_live live is; sent = (agrees caller call block holds.1, tt) }
   kind_right (Repeats caller call block) holds = record { live = is; sent = (agrees caller call block holds.1, tt) }

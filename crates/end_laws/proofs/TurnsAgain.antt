@@ -1,5 +1,5 @@
 -- A request is sent again with each 32,000th unit since it was sent, as long as it is active.
-use Rattle.std.proofs.Common.{◌≡◌, ◌⊎◌, inl, inr, ◌+◌, ◌++◌, ◌%◌, ◌==◌, ℕ, suc, Bool, true, false, List, [], ◌∷◌, Option, Some, None, refl, sym, ap, subst, ◌∙◌, arith}
+use Rattle.std.proofs.Common.{◌≡◌, ◌⊎◌, inl, inr, ◌+◌, ◌++◌, ◌%◌, ◌==◌, ℕ, suc, Bool, true, false, List, [], ◌∷◌, Option, Some, None, refl, sym, ap, subst, ◌∙◌, arith, nat_lt}
 use Rattle.std.specs.Prelude.{◌||◌, if◌then◌else◌}
 use Rattle.std.proofs.lemmas.Bool.{and_parts, eqb-true, eqb-false, false≢true}
 use Rattle.record_blocks.specs.declared.alarm_ack.AlarmAck.{AlarmAck}
@@ -19,6 +19,7 @@ use Rattle.controller_messages.specs.declared.setup.Setup.{Setup}
 use Rattle.controller_messages.specs.declared.request.Request.{Request}
 use Rattle.controller_messages.specs.declared.request.Request.TheVariants as asks
 use Rattle.controller_messages.specs.Sent.{Sent}
+use Rattle.controller_messages.specs.Requests.{write_count}
 use Rattle.controller_core.specs.declared.stored.event.Event.{Event}
 use Rattle.controller_core.specs.declared.stored.event.Event.TheVariants.{Frame, Tick, Give, Status, Read, Write, Stop}
 use Rattle.controller_core.specs.declared.stored.state.Cause.{Cause}
@@ -28,16 +29,18 @@ use Rattle.controller_core.specs.declared.stored.state.State.TheVariants.{Lookin
 use Rattle.controller_core.specs.stored.Alarms.{ack_of, kept_alarm}
 use Rattle.controller_core.specs.stored.State.{Controlling, Live, is_limited}
 use Rattle.controller_core.specs.Machine.{Turn, acking, acks_in, acks_of, after_turn, behind_data, brought, can_begin, due_frames, end_of, exchange_later, flowed, gone_on, is_again, is_spent, keeping, later, outputs_of, pending_by, pending_of, quit, requests_of, step_of, taken, ticked, turn_of, where_due, with_end}
+use Rattle.controller_core.specs.start_up.Requests.{behind_write, end_after, write_after}
 use Rattle.end_laws.specs.controller.Small.{IsInStep, IsSteady}
 use Rattle.end_laws.specs.turns.Beside.{MayFollow}
 use Rattle.end_laws.specs.turns.Again.{AsksEachSecond, StaysAsked, is_request, sends_request}
 use Rattle.end_laws.specs.turns.Ended.{is_unit}
 use Rattle.end_laws.specs.turns.Patience.{units_in}
 use Rattle.end_laws.specs.turns.Runs.{IsReached, behind_all}
-use Rattle.end_laws.specs.turns.Turns.{Came, IsEnd, IsKind, Kind, Passes, Rests, Connects, Addresses, Ends, Releases, Relates, Writes, Skips, Waits, Forgets, Begins, Repeats, Follows, Takes, IsAcked, Gives, GivesStatus, Asks, IsReplied, IsPlugAnswered, IsPlugReadied, Flows, Breaks, Idles, came_by, turn_by}
+use Rattle.end_laws.specs.turns.Turns.{Came, IsEnd, IsKind, Kind, Passes, Rests, Connects, Addresses, Ends, Releases, Relates, Writes, Skips, Tries, Waits, Forgets, Begins, Repeats, Follows, Takes, IsAcked, Gives, GivesStatus, Asks, IsReplied, IsPlugAnswered, IsPlugReadied, Flows, Breaks, Idles, came_by, turn_by}
 use Rattle.end_laws.proofs.TurnsBelongs.{reached_steady}
 use Rattle.end_laws.proofs.TurnsBeside.{follows, still_is, unit_begun}
 use Rattle.end_laws.proofs.TurnsOneTurn.{event_is}
+use Rattle.plans.specs.declared.parts.Parts.{Parts}
 use Rattle.end_laws.proofs.TurnsWhole.{reached_on, whole_end}
 
 -- ---- a request that stays active was not sent again
@@ -57,6 +60,18 @@ not_next request true number e = absurd (omega (arith, same number (number + 1) 
     same : (n m : ℕ) → asks.Write n ≡ asks.Write m → n ≡ m
     same n m e = cc
 not_next request false number e = absurd cc
+
+not_after : (is : Bool) (number tries : ℕ) → asks.WriteAfter number tries ≡ (if is then asks.WriteAfter (number + 1) tries else asks.PrmEndAfter tries) → ⊥
+not_after true number tries e = absurd (omega (arith, same number (number + 1) e))
+  where
+    same : (n m : ℕ) → asks.WriteAfter n tries ≡ asks.WriteAfter m tries → n ≡ m
+    same n m e = cc
+not_after false number tries e = absurd cc
+
+-- The request that follows a Write is another one.
+not_behind : (plan : Parts) (number : ℕ) (tries : Option ℕ) → write_after number tries ≡ behind_write plan number tries → ⊥
+not_behind plan number None e = not_next asks.Identify (nat_lt (number + 1) (write_count plan)) number e
+not_behind plan number (Some tries) e = not_after (nat_lt (number + 1) (write_count plan)) number tries e
 
 not_first : (is : Bool) → asks.Connect ≡ (if is then asks.Write 0 else asks.PrmEnd) → ⊥
 not_first true e = absurd cc
@@ -89,14 +104,16 @@ module _ (setup : Setup) (live : Live) (request : Request) (steady : IsSteady se
     where
       not : asks.Release sequence ≡ asks.Connect → ⊥
       not e = absurd cc
-  unreleased Writing is going sequence e = let now = in_phase Writing is in not now.0 (e ∙ asked_is (asks.Write now.0) now.2)
+  unreleased Writing is going sequence e = let now = in_phase Writing is in not now.0 now.1 (e ∙ asked_is (write_after now.0 now.1) now.3)
     where
-      not : (number : ℕ) → asks.Release sequence ≡ asks.Write number → ⊥
-      not number e = absurd cc
-  unreleased Ending is going sequence e = not (e ∙ asked_is asks.PrmEnd (in_phase Ending is))
+      not : (number : ℕ) (tries : Option ℕ) → asks.Release sequence ≡ write_after number tries → ⊥
+      not number None e = absurd cc
+      not number (Some tries) e = absurd cc
+  unreleased Ending is going sequence e = let now = in_phase Ending is in not now.0 (e ∙ asked_is (end_after now.0) now.1)
     where
-      not : asks.Release sequence ≡ asks.PrmEnd → ⊥
-      not e = absurd cc
+      not : (tries : Option ℕ) → asks.Release sequence ≡ end_after tries → ⊥
+      not None e = absurd cc
+      not (Some tries) e = absurd cc
   unreleased Waiting is going sequence e = none_some request (sym (in_phase Waiting is) ∙ stood)
   unreleased Exchanging is going sequence e = none_some request (sym (in_phase Exchanging is) ∙ stood)
   unreleased (Ended cause) is going sequence e = going cause (whole cause is)
@@ -162,9 +179,12 @@ module _ (setup : Setup) (live : Live) (request : Request) (steady : IsSteady se
   kind_waits came (Ends cause refusal denied units) other holds e = none_some request e
   kind_waits came (Releases cause refusal denied units) other holds e = absurd (unreleased live.phase refl holds.0 _ (some_is _ request e))
   kind_waits came (Relates places chosen) other holds e = absurd (not_first _ (sym (some_is _ request e ∙ asked_is asks.Connect holds.0.stood)))
-  kind_waits came (Writes number) other holds e = absurd (not_next request _ number (sym (some_is _ request e ∙ asked_is (asks.Write number) holds.0.stood)))
-  kind_waits came (Skips number denied status) other holds e = absurd (not_next request _ number (sym (some_is _ request e ∙ asked_is (asks.Write number) holds.stood)))
-  kind_waits came Waits other holds e = none_some request e
+  kind_waits came (Writes number tries) other holds e =
+      absurd (not_behind setup.plan number tries (sym (some_is _ request e ∙ asked_is (write_after number tries) holds.0.stood)))
+  kind_waits came (Skips number tries denied status) other holds e =
+      absurd (not_behind setup.plan number tries (sym (some_is _ request e ∙ asked_is (write_after number tries) holds.stood)))
+  kind_waits came (Tries next status) other holds e = refl
+  kind_waits came (Waits tries) other holds e = none_some request e
   kind_waits came Forgets other holds e = none_some request e
   kind_waits came (Begins caller call block) other holds e = none_some request e
   kind_waits came (Repeats caller call block) other holds e = refl

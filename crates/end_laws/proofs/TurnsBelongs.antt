@@ -38,7 +38,7 @@ use Rattle.controller_core.specs.declared.stored.event.Event.{Event}
 use Rattle.controller_core.specs.declared.stored.state.State.{State}
 use Rattle.controller_core.specs.declared.stored.state.State.TheVariants.{Looking, Addressing, Exchanging}
 use Rattle.controller_core.specs.start_up.Answers.{is_answer, is_found, is_identify, is_refused, is_set, is_set_answer}
-use Rattle.controller_core.specs.start_up.Requests.{next_sequence}
+use Rattle.controller_core.specs.start_up.Requests.{behind_write, next_sequence}
 use Rattle.controller_core.specs.stored.State.{Controlling, Live}
 use Rattle.controller_messages.specs.declared.setup.ControllerOptions.{ControllerOptions}
 use Rattle.controller_core.specs.Machine.{Turn, accesses_by, accesses_of, addressed, after_turn, answered, asks_next, behind_data, beside, brought, can_begin, decided, due_frames, end_of, failed, found, is_again, later, noted, outputs_of, acks_in, acks_of, pending_by, pending_of, plug_readied, plug_replied, plugs_by, refused, refused_beside, refused_by, rejected, replied, replied_by, requests_of, responded, standing, stays, fresh_with, step_of, stepped, taken, turn_of, turned, where_due, writing}
@@ -46,7 +46,7 @@ use Rattle.end_laws.specs.controller.Small.{IsInStep, IsSteady}
 use Rattle.end_laws.specs.turns.Belongs.{AreNumberedApart, AreNumberedLater, BelongsToAnother, DropsAnswersToOthers, IsOfAnotherCall, IsOfAnotherRequest, IsOfStartUp, IsTheWaiting, WaitsForWhatIsSent, call_by, waiting_beside, waiting_by, waiting_dcp, waiting_in}
 use Rattle.end_laws.specs.turns.Beside.{MayFollow, flow_begun}
 use Rattle.end_laws.specs.turns.Runs.{IsReached, behind_all}
-use Rattle.end_laws.specs.turns.Turns.{Came, IsKind, Kind, Rests, Connects, Addresses, Ends, Releases, Relates, Writes, Skips, Waits, Forgets, Begins, Repeats, Follows, Takes, IsAcked, Gives, GivesStatus, Asks, IsReplied, IsPlugAnswered, IsPlugReadied, Flows, Breaks, Idles, came_by, turn_by}
+use Rattle.end_laws.specs.turns.Turns.{Came, IsKind, Kind, Rests, Connects, Addresses, Ends, Releases, Relates, Writes, Skips, Tries, Waits, Forgets, Begins, Repeats, Follows, Takes, IsAcked, Gives, GivesStatus, Asks, IsReplied, IsPlugAnswered, IsPlugReadied, Flows, Breaks, Idles, came_by, turn_by}
 use Rattle.end_laws.proofs.TurnsBeside.{follows, rejected_now, stays_alone}
 use Rattle.end_laws.proofs.TurnsOneTurn.{event_is}
 use Rattle.end_laws.proofs.ControllerTurns.{event_goes}
@@ -88,6 +88,8 @@ module _ (setup : Setup) where
   no_answer asks.Connect header other = not_same (header_of setup asks.Connect) header.activity header.sequence other
   no_answer (asks.Write number) header other = not_same (header_of setup (asks.Write number)) header.activity header.sequence other
   no_answer asks.PrmEnd header other = not_same (header_of setup asks.PrmEnd) header.activity header.sequence other
+  no_answer (asks.WriteAfter number tries) header other = not_same (header_of setup (asks.WriteAfter number tries)) header.activity header.sequence other
+  no_answer (asks.PrmEndAfter tries) header other = not_same (header_of setup (asks.PrmEndAfter tries)) header.activity header.sequence other
   no_answer (asks.Release sequence) header other = not_same (header_of setup (asks.Release sequence)) header.activity header.sequence other
 
   no_refusal : (request : Request) (refusal : Refusal) → IsOfAnotherCall (call_by setup request) refusal.activity refusal.sequence → is_refused setup request refusal ≡ false
@@ -96,6 +98,8 @@ module _ (setup : Setup) where
   no_refusal asks.Connect refusal other = not_same (header_of setup asks.Connect) refusal.activity refusal.sequence other
   no_refusal (asks.Write number) refusal other = not_same (header_of setup (asks.Write number)) refusal.activity refusal.sequence other
   no_refusal asks.PrmEnd refusal other = not_same (header_of setup asks.PrmEnd) refusal.activity refusal.sequence other
+  no_refusal (asks.WriteAfter number tries) refusal other = not_same (header_of setup (asks.WriteAfter number tries)) refusal.activity refusal.sequence other
+  no_refusal (asks.PrmEndAfter tries) refusal other = not_same (header_of setup (asks.PrmEndAfter tries)) refusal.activity refusal.sequence other
   no_refusal (asks.Release sequence) refusal other = not_same (header_of setup (asks.Release sequence)) refusal.activity refusal.sequence other
 
   -- ---- it is dropped
@@ -325,9 +329,10 @@ module _ (setup : Setup) where
   kind_waits live came (Ends cause refusal denied units) steady next holds = tt
   kind_waits live came (Releases cause refusal denied units) steady next holds = (refl, tt)
   kind_waits live came (Relates places chosen) steady next holds = writing_waits (writing_from setup.plan 0) (standing setup (record live { places = places }) chosen)
-  kind_waits live came (Writes number) steady next holds = writing_waits (writing_from setup.plan (number + 1)) live
-  kind_waits live came (Skips number denied status) steady next holds = writing_waits (writing_from setup.plan (number + 1)) (noted status denied live)
-  kind_waits live came Waits steady next holds = tt
+  kind_waits live came (Writes number tries) steady next holds = writing_waits (behind_write setup.plan number tries) live
+  kind_waits live came (Skips number tries denied status) steady next holds = writing_waits (behind_write setup.plan number tries) (noted status denied live)
+  kind_waits live came (Tries again status) steady next holds = tt
+  kind_waits live came (Waits tries) steady next holds = tt
   kind_waits live came Forgets steady next holds = tt
   kind_waits live came (Begins caller call block) steady next holds = (tt, tt)
   kind_waits live came (Repeats caller call block) steady next holds = (tt, tt)
@@ -388,6 +393,8 @@ are_numbered_apart setup asks.PrmEnd asks.PrmEnd one other same = refl
 are_numbered_apart setup asks.Identify other one others same = absurd one
 are_numbered_apart setup asks.Address other one others same = absurd one
 are_numbered_apart setup (asks.Release sequence) other one others same = absurd one
+are_numbered_apart setup (asks.WriteAfter number tries) other one others same = absurd one
+are_numbered_apart setup (asks.PrmEndAfter tries) other one others same = absurd one
 are_numbered_apart setup one other one_is other_is same = absurd other_is
 
 number_is : (plan : Parts) (calls : ℕ) → write_count plan + 2 + calls < 4294967296 → call_number plan calls ≡ write_count plan + 2 + calls

@@ -52,7 +52,7 @@ use Rattle.controller_messages.specs.Heard.{Heard, Nothing, Answers, Responds, R
 use Rattle.controller_messages.specs.Heard.{Cyclic as Comes}
 use Rattle.controller_messages.specs.PlugRequests.{is_plug_answer, is_plug_ready, plug_ready_in}
 use Rattle.controller_messages.specs.RecordRequests.{most_record_octets}
-use Rattle.controller_messages.specs.Requests.{first_of, header_of, writing_from}
+use Rattle.controller_messages.specs.Requests.{first_of, header_of, writing_from, writing_after}
 use Rattle.controller_messages.specs.Sent.{Sent, bytes_of}
 use Rattle.controller_core.specs.declared.start_up.outcomes.Outcomes.{Outcomes}
 use Rattle.controller_core.specs.declared.start_up.outcomes.Outcomes.TheVariants.{AllWritten, Unreadable}
@@ -63,12 +63,13 @@ use Rattle.controller_core.specs.declared.stored.state.Cause.{Cause}
 use Rattle.controller_core.specs.declared.stored.state.Cause.TheVariants as why
 use Rattle.controller_core.specs.declared.stored.state.State.{State}
 use Rattle.controller_core.specs.declared.stored.state.State.TheVariants.{Looking, Addressing, Connecting, Writing, Ending, Waiting, Exchanging, Ended}
-use Rattle.controller_core.specs.start_up.Answers.{ident_bytes, is_addressed, is_answer, is_found, is_held, is_identify, is_ready, is_refused, is_reported, is_right, is_set_answer, is_state_conflict, ready_in}
+use Rattle.controller_core.specs.start_up.Answers.{ident_bytes, is_addressed, is_answer, is_found, is_held, is_identify, is_ready, is_refused, is_reported, is_right, is_set_answer, is_state_conflict, ready_in, is_tried}
 use Rattle.controller_core.specs.start_up.Outcomes.{is_all_written, outcomes_of}
 use Rattle.controller_core.specs.stored.Alarms.{ack_of, is_alarm, kept_alarm}
 use Rattle.controller_core.specs.stored.State.{Controlling, Live, is_limited, phase_for}
 use Rattle.controller_core.specs.stored.Cause.{cause_of}
-use Rattle.controller_core.specs.Machine.{Turn, acked_under, acking, after_turn, after_write, alarmed, answered, asking, asks_next, behind_data, beside, brings, brought, called, can_begin, can_request, connected, decided, done, end_of, ended_by, exchange_later, failed, flow_later, flowed, found as is_found_by, fresh_with, gone_on, granted, is_again, is_plug_awaited, is_spent, keeping, later, noted, noticed, over, past_record, placed, plug_called, plug_replied, quit, readied, refused, refused_beside, refused_by, rejected, related_by, released, replied, replied_by, requested, requests_of, responded, standing, stays, step_of, stopped, taken, ticked, turn_of, turned, undone, where_due, with_end, writing}
+use Rattle.controller_core.specs.Machine.{Turn, acked_under, acking, after_turn, after_write, alarmed, answered, asking, asks_next, behind_data, beside, brings, brought, called, can_begin, can_request, connected, decided, done, end_of, ended_by, exchange_later, failed, flow_later, flowed, found as is_found_by, fresh_with, gone_on, granted, is_again, is_plug_awaited, is_spent, keeping, later, noted, noticed, over, past_record, placed, plug_called, plug_replied, quit, readied, refused, refused_beside, refused_by, rejected, related_by, released, replied, replied_by, requested, requests_of, responded, standing, stays, step_of, stopped, taken, ticked, turn_of, turned, undone, where_due, with_end, writing, refused_end, refused_write, trying}
+use Rattle.controller_core.specs.start_up.Requests.{behind_write, write_after}
 use Rattle.end_laws.specs.turns.Belongs.{call_by, waiting_by}
 use Rattle.end_laws.specs.turns.Beside.{MayFollow, flow_begun}
 use Rattle.end_laws.specs.turns.Causes.{EachCauseEnds, EachEndHasItsCause, EachRunHasItsCause, EndsBy, HasCause, IsNegative, IsNoRefusal, IsOfTheCall, IsOfWrongDevice, IsOutOfTime, IsRefusal, IsReleaseAlone, IsReleaseFromConnect, IsToldAs, WasEnded, has_ended}
@@ -212,6 +213,8 @@ module _ (setup : Setup) (live : Live) (going : has_ended live.phase ≡ false) 
   answers_it asks.Connect response stood right = of_the_call asks.Connect (header_of setup asks.Connect) _ _ stood refl right
   answers_it (asks.Write number) response stood right = of_the_call (asks.Write number) (header_of setup (asks.Write number)) _ _ stood refl right
   answers_it asks.PrmEnd response stood right = of_the_call asks.PrmEnd (header_of setup asks.PrmEnd) _ _ stood refl right
+  answers_it (asks.WriteAfter number tries) response stood right = of_the_call (asks.WriteAfter number tries) (header_of setup (asks.WriteAfter number tries)) _ _ stood refl right
+  answers_it (asks.PrmEndAfter tries) response stood right = of_the_call (asks.PrmEndAfter tries) (header_of setup (asks.PrmEndAfter tries)) _ _ stood refl right
   answers_it (asks.Release sequence) response stood right = of_the_call (asks.Release sequence) (header_of setup (asks.Release sequence)) _ _ stood refl right
 
   refuses_it : (request : Request) (refusal : Refusal) → live.asked ≡ Some request → is_refused setup request refusal ≡ true
@@ -221,6 +224,8 @@ module _ (setup : Setup) (live : Live) (going : has_ended live.phase ≡ false) 
   refuses_it asks.Connect refusal stood right = of_the_call asks.Connect (header_of setup asks.Connect) _ _ stood refl right
   refuses_it (asks.Write number) refusal stood right = of_the_call (asks.Write number) (header_of setup (asks.Write number)) _ _ stood refl right
   refuses_it asks.PrmEnd refusal stood right = of_the_call asks.PrmEnd (header_of setup asks.PrmEnd) _ _ stood refl right
+  refuses_it (asks.WriteAfter number tries) refusal stood right = of_the_call (asks.WriteAfter number tries) (header_of setup (asks.WriteAfter number tries)) _ _ stood refl right
+  refuses_it (asks.PrmEndAfter tries) refusal stood right = of_the_call (asks.PrmEndAfter tries) (header_of setup (asks.PrmEndAfter tries)) _ _ stood refl right
   refuses_it (asks.Release sequence) refusal stood right = of_the_call (asks.Release sequence) (header_of setup (asks.Release sequence)) _ _ stood refl right
 
   module _ (response : Response) where
@@ -236,6 +241,7 @@ module _ (setup : Setup) (live : Live) (going : has_ended live.phase ≡ false) 
         where
           goes_by : (request : Request) → has_ended (phase_for request) ≡ false
           goes_by (asks.Write number) = refl
+          goes_by (asks.WriteAfter number tries) = refl
           goes_by request = refl
       related_for None = keeps (stays now_placed) refl
 
@@ -260,15 +266,16 @@ module _ (setup : Setup) (live : Live) (going : has_ended live.phase ≡ false) 
 
     goes_with : (request : Request) → has_ended (phase_for request) ≡ false
     goes_with (asks.Write number) = refl
+    goes_with (asks.WriteAfter number tries) = refl
     goes_with request = refl
 
     writes_for : (request : Request) (next : Live) → IsFor heard_now (writing setup request next)
     writes_for request next = moves (writing setup request next) (goes_with request)
 
-    passed_for : (number refused : ℕ) (status : Code) → IsRefusal setup live heard_now → IsFor heard_now (past_record setup number (noted status refused live))
-    passed_for number refused status is =
+    passed_for : (next : Request) (refused : ℕ) (status : Code) → IsRefusal setup live heard_now → IsFor heard_now (past_record setup next (noted status refused live))
+    passed_for next refused status is =
         either setup.plan.continue_on_refused_record
-        (writes_for (writing_from setup.plan (number + 1)) (noted status refused live))
+        (writes_for next (noted status refused live))
         (by_cases setup.plan.release_on_refused_record
         (λ informs. releases why.Refused (noted status refused live) refl is (λ alone. inr (inl informs, alone)))
         (λ silent. ends why.Refused (noted status refused live) [] is (inl refl)))
@@ -276,26 +283,46 @@ module _ (setup : Setup) (live : Live) (going : has_ended live.phase ≡ false) 
     negative : (request : Request) → live.asked ≡ Some request → is_answer setup request response.header ≡ true → IsNegative setup live.asked response → IsRefusal setup live heard_now
     negative request stood right denies = (Responds response, refl, (answers_it request response stood right, denies))
 
-    outcomes_for : (number : ℕ) → live.asked ≡ Some (asks.Write number) → is_answer setup (asks.Write number) response.header ≡ true
-        → (outcomes : Outcomes) → outcomes_of setup.plan number response.blocks ≡ outcomes → IsFor heard_now (after_write setup live number outcomes)
-    outcomes_for number stood right AllWritten e = writes_for (writing_from setup.plan (number + 1)) live
-    outcomes_for number stood right (Denied place status) e =
-        passed_for number (first_of setup.plan number + place) status
-        (negative (asks.Write number) stood right (inr (number, stood, ap (λ (o : Outcomes). is_all_written o) e)))
-    outcomes_for number stood right Unreadable e = rests
+    outcomes_for : (number : ℕ) (tries : Option ℕ) → live.asked ≡ Some (write_after number tries) → is_answer setup (write_after number tries) response.header ≡ true
+        → (outcomes : Outcomes) → outcomes_of setup.plan number response.blocks ≡ outcomes
+        → IsFor heard_now (after_write setup live number (behind_write setup.plan number tries) outcomes)
+    outcomes_for number tries stood right AllWritten e = writes_for (behind_write setup.plan number tries) live
+    outcomes_for number tries stood right (Denied place status) e =
+        passed_for (behind_write setup.plan number tries) (first_of setup.plan number + place) status
+        (negative (write_after number tries) stood right (inr (number, tries, stood, ap (λ (o : Outcomes). is_all_written o) e)))
+    outcomes_for number tries stood right Unreadable e = rests
+
+    -- a Write, or PrmEnd, that is refused as busy is tried again, if the plan says so
+    refused_write_for : (number tries : ℕ) (next : Request) → IsRefusal setup live heard_now
+        → IsFor heard_now (refused_write setup live response.status number tries next)
+    refused_write_for number tries next is =
+        either (is_tried setup.plan response.status tries) (keeps (trying (asks.WriteAfter number (tries + 1)) response.status live) refl)
+        (passed_for next (first_of setup.plan number) response.status is)
+
+    refused_end_for : (tries : ℕ) → IsRefusal setup live heard_now → IsFor heard_now (refused_end setup live response.status tries)
+    refused_end_for tries is =
+        either (is_tried setup.plan response.status tries) (keeps (trying (asks.PrmEndAfter (tries + 1)) response.status live) refl)
+        (ends why.Refused (record live { refusal = Some response.status }) [] is (inl refl))
 
     done_for : (request : Request) → live.asked ≡ Some request → is_answer setup request response.header ≡ true → is_done response.status ≡ true
         → IsFor heard_now (done setup live response.blocks request)
     done_for asks.Identify stood right granted = rests
     done_for asks.Address stood right granted = rests
     done_for asks.Connect stood right granted = connected_for stood right granted (found_in 400 response.blocks nothing) refl
-    done_for (asks.Write number) stood right granted = outcomes_for number stood right (outcomes_of setup.plan number response.blocks) refl
+    done_for (asks.Write number) stood right granted = outcomes_for number None stood right (outcomes_of setup.plan number response.blocks) refl
+    done_for (asks.WriteAfter number tries) stood right granted = outcomes_for number (Some tries) stood right (outcomes_of setup.plan number response.blocks) refl
     done_for asks.PrmEnd stood right granted = moves _ refl
+    done_for (asks.PrmEndAfter tries) stood right granted = moves _ refl
     done_for (asks.Release sequence) stood right granted = keeps _ refl
 
     undone_for : (request : Request) → live.asked ≡ Some request → is_answer setup request response.header ≡ true → is_done response.status ≡ false
         → IsFor heard_now (undone setup live response.status request)
-    undone_for (asks.Write number) stood right denies = passed_for number (first_of setup.plan number) response.status (negative (asks.Write number) stood right (inl denies))
+    undone_for (asks.Write number) stood right denies =
+        refused_write_for number 0 (writing_from setup.plan (number + 1)) (negative (asks.Write number) stood right (inl denies))
+    undone_for (asks.WriteAfter number tries) stood right denies =
+        refused_write_for number tries (writing_after setup.plan (number + 1) tries) (negative (asks.WriteAfter number tries) stood right (inl denies))
+    undone_for asks.PrmEnd stood right denies = refused_end_for 0 (negative asks.PrmEnd stood right (inl denies))
+    undone_for (asks.PrmEndAfter tries) stood right denies = refused_end_for tries (negative (asks.PrmEndAfter tries) stood right (inl denies))
     undone_for asks.Connect stood right denies =
         let refuses = negative asks.Connect stood right (inl denies) in
         let next : Live = record live { refusal = Some response.status } in

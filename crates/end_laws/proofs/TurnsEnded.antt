@@ -25,11 +25,12 @@ use Rattle.controller_core.specs.stored.State.{Controlling, Live, is_limited, wi
 use Rattle.controller_messages.specs.Access.{is_free}
 use Rattle.controller_core.specs.Machine.{Turn, accessing, exchange_later, flowed, brought, gone_on, is_again, is_exchanging, later, quit, request_for, requested, requests_of, stays, step_of, stopped, ticked, turned, written}
 use Rattle.controller_core.specs.Machine.{where_due as sent_where_due}
+use Rattle.controller_core.specs.start_up.Requests.{end_after, write_after}
 use Rattle.end_laws.specs.turns.Runs.{frames_of}
 use Rattle.end_laws.specs.turns.Ended.{CountsUnits, DropsWhatComes, HasEnded, IsReleased, IsDropped, IsOnlySet, IsSilent, KeepsItsCause, RepeatsItsRelease, is_unit, may_release, release_in, release_of, where_due}
-use Rattle.end_laws.specs.turns.Turns.{Hears, Passes, Gets, GetsStatus, IsEnd, IsKind, IsReported, Kind, Rests, Connects, Addresses, Ends, Releases, Relates, Writes, Skips, Waits, Forgets, Begins, Repeats, Follows, Takes, IsAcked, Gives, GivesStatus, Asks, IsReplied, IsPlugAnswered, IsPlugReadied, Flows, Breaks, Idles, turn_by}
+use Rattle.end_laws.specs.turns.Turns.{Hears, Passes, Gets, GetsStatus, IsEnd, IsKind, IsReported, Kind, Rests, Connects, Addresses, Ends, Releases, Relates, Writes, Skips, Tries, Waits, Forgets, Begins, Repeats, Follows, Takes, IsAcked, Gives, GivesStatus, Asks, IsReplied, IsPlugAnswered, IsPlugReadied, Flows, Breaks, Idles, turn_by}
 use Rattle.end_laws.proofs.TurnsBeside.{still_is, unit_begun}
-use Rattle.end_laws.proofs.TurnsOneTurn.{is_over, is_release, not_over, turn_is, unreported}
+use Rattle.end_laws.proofs.TurnsOneTurn.{is_over, is_release, not_over, turn_is, unreported, write_going, end_going, tried_going}
 use Rattle.end_laws.proofs.TurnsWhole.{reached_on, whole_end}
 
 -- ---- a frame
@@ -79,9 +80,10 @@ module _ (setup : Setup) (live : Live) (heard : Heard) (cause : Cause) (h : IsEn
   unmoved_by (Ends mine refusal refused units) holds = absurd (holds.0 cause h)
   unmoved_by (Releases mine refusal refused units) holds = absurd (holds.0 cause h)
   unmoved_by (Relates places chosen) holds = absurd (unasked asks.Connect refl holds.0.stood)
-  unmoved_by (Writes number) holds = absurd (unasked (asks.Write number) refl holds.0.stood)
-  unmoved_by (Skips number refused status) holds = absurd (unasked (asks.Write number) refl holds.stood)
-  unmoved_by Waits holds = absurd (unasked asks.PrmEnd refl holds.stood)
+  unmoved_by (Writes number tries) holds = absurd (unasked (write_after number tries) (write_going number tries) holds.0.stood)
+  unmoved_by (Skips number tries refused status) holds = absurd (unasked (write_after number tries) (write_going number tries) holds.stood)
+  unmoved_by (Tries next status) holds = absurd (unasked holds.request (tried_going holds.request next holds.tries) holds.stood)
+  unmoved_by (Waits tries) holds = absurd (unasked (end_after tries) (end_going tries) holds.stood)
   unmoved_by Forgets holds = inr (subst (λ (other : Heard). IsReleased setup live other) (same_heard holds.0 holds.1) holds.2, refl)
   unmoved_by (Begins caller call block) holds = absurd (either_phase Ending Waiting refl refl holds.0)
   unmoved_by (Repeats caller call block) holds = absurd (other_phase Exchanging refl holds.0)

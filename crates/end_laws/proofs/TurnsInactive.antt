@@ -19,7 +19,7 @@ use Rattle.controller_core.specs.stored.State.{Live}
 use Rattle.controller_core.specs.Machine.{Turn, accesses_by, accesses_of, after_turn, asks_next, can_begin, end_of, outputs_of, pending_by, plug_readied, plugs_by, plugs_of, requests_of, stays, where_due}
 use Rattle.end_laws.specs.turns.Alarms.{is_priority, shown_of}
 use Rattle.end_laws.specs.turns.Beside.{MayFollow}
-use Rattle.end_laws.specs.turns.Turns.{Came, Hears, Passes, IsKind, Kind, Rests, Connects, Addresses, Ends, Releases, Relates, Writes, Skips, Waits, Forgets, Begins, Repeats, Follows, Takes, IsAcked, Gives, GivesStatus, Asks, IsReplied, IsPlugAnswered, IsPlugReadied, Flows, Breaks, Idles, turn_by, turn_for}
+use Rattle.end_laws.specs.turns.Turns.{Came, Hears, Passes, IsKind, Kind, Rests, Connects, Addresses, Ends, Releases, Relates, Writes, Skips, Tries, Waits, Forgets, Begins, Repeats, Follows, Takes, IsAcked, Gives, GivesStatus, Asks, IsReplied, IsPlugAnswered, IsPlugReadied, Flows, Breaks, Idles, turn_by, turn_for}
 use Rattle.end_laws.proofs.TurnsBeside.{follows}
 use Rattle.end_laws.proofs.TurnsOneTurn.{turn_is}
 
@@ -116,9 +116,10 @@ module _ (setup : Setup) (live : Live) (came : Came) (plain : IsPlain came) wher
   inactive_by (Ends cause refusal refused units) holds = record { high = refl; low = refl; alarm = refl; low_alarm = refl; sent = tt }
   inactive_by (Releases cause refusal refused units) holds = record { high = refl; low = refl; alarm = refl; low_alarm = refl; sent = (tt, tt) }
   inactive_by (Relates places chosen) holds = record { high = refl; low = refl; alarm = refl; low_alarm = refl; sent = (tt, tt) }
-  inactive_by (Writes number) holds = record { high = refl; low = refl; alarm = refl; low_alarm = refl; sent = (tt, tt) }
-  inactive_by (Skips number refused status) holds = record { high = refl; low = refl; alarm = refl; low_alarm = refl; sent = (tt, tt) }
-  inactive_by Waits holds = record { high = refl; low = refl; alarm = refl; low_alarm = refl; sent = tt }
+  inactive_by (Tries next status) holds = record { high = refl; low = refl; alarm = refl; low_alarm = refl; sent = tt }
+  inactive_by (Writes number tries) holds = record { high = refl; low = refl; alarm = refl; low_alarm = refl; sent = (tt, tt) }
+  inactive_by (Skips number tries refused status) holds = record { high = refl; low = refl; alarm = refl; low_alarm = refl; sent = (tt, tt) }
+  inactive_by (Waits tries) holds = record { high = refl; low = refl; alarm = refl; low_alarm = refl; sent = tt }
   inactive_by Forgets holds = record { high = refl; low = refl; alarm = refl; low_alarm = refl; sent = tt }
   inactive_by (Begins caller call block) holds = record { high = refl; low = refl; alarm = refl; low_alarm = refl; sent = (tt, tt) }
   inactive_by (Repeats caller call block) holds = record { high = refl; low = refl; alarm = refl; low_alarm = refl; sent = (tt, tt) }

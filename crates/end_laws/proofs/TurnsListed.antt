@@ -23,7 +23,7 @@ use Rattle.module_diff.specs.declared.changes.Affected.{Affected}
 use Rattle.controller_messages.specs.declared.request.Request.{Request}
 use Rattle.controller_messages.specs.declared.request.Request.TheVariants as asks
 use Rattle.controller_messages.specs.declared.setup.Setup.{Setup}
-use Rattle.controller_messages.specs.Requests.{write_count}
+use Rattle.controller_messages.specs.Requests.{write_count, writing_from}
 use Rattle.controller_messages.specs.Heard.{Heard, Alarms}
 use Rattle.controller_messages.specs.PlugRequests.{plug_answer}
 use Rattle.controller_messages.specs.Sent.{Sent, Agrees, Confirms}
@@ -33,12 +33,14 @@ use Rattle.controller_core.specs.declared.stored.state.State.TheVariants.{Lookin
 use Rattle.controller_core.specs.Machine.{Turn, after_turn, alarmed, asks_next, behind_data, can_begin, end_of, flow_later, noticed, plug_readied, stays, taken, turned}
 use Rattle.controller_core.specs.stored.State.{phase_for}
 use Rattle.controller_core.specs.stored.State.{Live}
+use Rattle.controller_core.specs.start_up.Requests.{behind_write, tried_as}
 use Rattle.end_laws.specs.turns.Alarms.{IsQuiet, ListsWhatIsReported, Move, Relation, ReportsNone, Raises, PassesAtDevice, ComesToDevice, AckComesToDevice, AlarmComes, Hears, PassesAtController, Gives, GivesStatus, Reads, Writes, Stops, after_reports, alarm_comes, behind, behind_one, comes_to_device, hears, is_looked_at, is_priority, raised_by, report_as, start, turns}
 use Rattle.end_laws.specs.turns.Beside.{MayBegin, MayFollow, flow_begun}
 use Rattle.end_laws.specs.turns.Turns as came
 use Rattle.end_laws.specs.turns.Turns.{Came, IsKind, Kind, turn_by, turn_for}
 use Rattle.end_laws.proofs.TurnsAlarms.{lines_taken}
 use Rattle.end_laws.proofs.TurnsBeside.{flows, follows}
+use Rattle.plans.specs.declared.parts.Parts.{Parts}
 use Rattle.end_laws.proofs.TurnsOneTurn.{turn_is}
 
 -- ---- the invariant
@@ -137,6 +139,32 @@ next_phase : (b : Bool) (number : ℕ) → IsBefore (phase_for (cond b (asks.Wri
 next_phase true number b = b
 next_phase false number b = b
 
+after_asks : (b : Bool) (number tries : ℕ) → Some (cond b (asks.WriteAfter number tries) (asks.PrmEndAfter tries)) ≡ Some asks.Connect → ⊥
+after_asks true number tries e = absurd cc
+after_asks false number tries e = absurd cc
+
+after_phase : (b : Bool) (number tries : ℕ) → IsBefore (phase_for (cond b (asks.WriteAfter number tries) (asks.PrmEndAfter tries))) → ⊥
+after_phase true number tries b = b
+after_phase false number tries b = b
+
+behind_asks : (plan : Parts) (number : ℕ) (tries : Option ℕ) → Some (behind_write plan number tries) ≡ Some asks.Connect → ⊥
+behind_asks plan number None e = next_asks (nat_lt (number + 1) (write_count plan)) (number + 1) e
+behind_asks plan number (Some tries) e = after_asks (nat_lt (number + 1) (write_count plan)) (number + 1) tries e
+
+behind_phase : (plan : Parts) (number : ℕ) (tries : Option ℕ) → IsBefore (phase_for (behind_write plan number tries)) → ⊥
+behind_phase plan number None b = next_phase (nat_lt (number + 1) (write_count plan)) (number + 1) b
+behind_phase plan number (Some tries) b = after_phase (nat_lt (number + 1) (write_count plan)) (number + 1) tries b
+
+tried_asks : (request next : Request) → tried_as request ≡ Some next → Some next ≡ Some asks.Connect → ⊥
+tried_asks (asks.Write number) next e f = absurd cc
+tried_asks asks.PrmEnd next e f = absurd cc
+tried_asks (asks.WriteAfter number tries) next e f = absurd cc
+tried_asks (asks.PrmEndAfter tries) next e f = absurd cc
+tried_asks asks.Identify next e f = absurd cc
+tried_asks asks.Address next e f = absurd cc
+tried_asks asks.Connect next e f = absurd cc
+tried_asks (asks.Release sequence) next e f = absurd cc
+
 sought_before : (phase : State) → (phase ≡ Looking) ⊎ (phase ≡ Addressing) → IsBefore phase
 sought_before phase (inl is) = subst (λ (s : State). IsBefore s) (sym is) tt
 sought_before phase (inr is) = subst (λ (s : State). IsBefore s) (sym is) tt
@@ -148,11 +176,12 @@ IsNoData _ = Unit {0}
 
 module _ (setup : Setup) (live : Live) (alarms : List AlarmNotification) (is : IsListed live alarms) where
   -- it goes on with the next record, or PrmEnd
-  writes_listed : (next : Live) (b : Bool) (number : ℕ) → next.phase ≡ phase_for (cond b (asks.Write number) asks.PrmEnd) → next.asked ≡ Some (cond b (asks.Write number) asks.PrmEnd)
+  writes_listed : (next : Live) (request : Request) → (Some request ≡ Some asks.Connect → ⊥) → (IsBefore (phase_for request) → ⊥)
+      → next.phase ≡ phase_for request → next.asked ≡ Some request
       → (next.stands ≡ true → next.diagnosis ≡ after_reports alarms nothing_reported) → IsListed next alarms
-  writes_listed next b number phase asked lists = record {
-    asks = λ e. absurd (next_asks b number (sym asked ∙ e));
-    before = λ early. absurd (next_phase b number (subst (λ (s : State). IsBefore s) phase early));
+  writes_listed next request no_connect not_before phase asked lists = record {
+    asks = λ e. absurd (no_connect (sym asked ∙ e));
+    before = λ early. absurd (not_before (subst (λ (s : State). IsBefore s) phase early));
     lists = lists;
   }
 
@@ -176,10 +205,17 @@ module _ (setup : Setup) (live : Live) (alarms : List AlarmNotification) (is : I
     listed_by (came.Releases cause refusal refused units) holds = record { asks = λ e. absurd (release_asks _ e); before = λ b. absurd b; lists = λ up. absurd (false≢true up) }
     listed_by (came.Relates places chosen) holds =
         let u = is.before (is.asks holds.0.stood) in
-        writes_listed _ (nat_lt 0 (write_count setup.plan)) 0 refl refl (λ up. u.empty ∙ ap (λ (xs : List AlarmNotification). after_reports xs nothing_reported) (sym u.none))
-    listed_by (came.Writes number) holds = writes_listed _ (nat_lt (number + 1) (write_count setup.plan)) (number + 1) refl refl is.lists
-    listed_by (came.Skips number refused status) holds = writes_listed _ (nat_lt (number + 1) (write_count setup.plan)) (number + 1) refl refl is.lists
-    listed_by came.Waits holds = record { asks = λ e. absurd (none_asks e); before = λ b. absurd b; lists = is.lists }
+        writes_listed _ (writing_from setup.plan 0) (next_asks (nat_lt 0 (write_count setup.plan)) 0) (next_phase (nat_lt 0 (write_count setup.plan)) 0) refl refl (λ up. u.empty ∙ ap (λ (xs : List AlarmNotification). after_reports xs nothing_reported) (sym u.none))
+    listed_by (came.Writes number tries) holds =
+        writes_listed _ (behind_write setup.plan number tries) (behind_asks setup.plan number tries) (behind_phase setup.plan number tries) refl refl is.lists
+    listed_by (came.Skips number tries refused status) holds =
+        writes_listed _ (behind_write setup.plan number tries) (behind_asks setup.plan number tries) (behind_phase setup.plan number tries) refl refl is.lists
+    listed_by (came.Tries next status) holds = record {
+      asks = λ e. absurd (tried_asks holds.request next holds.tries e);
+      before = λ b. let u = is.before b in record { none = u.none; down = u.down; empty = u.empty };
+      lists = is.lists;
+    }
+    listed_by (came.Waits tries) holds = record { asks = λ e. absurd (none_asks e); before = λ b. absurd b; lists = is.lists }
     listed_by came.Forgets holds =
         record { asks = λ e. absurd (none_asks e); before = λ b. let u = is.before b in record { none = u.none; down = u.down; empty = u.empty }; lists = is.lists }
     listed_by (came.Begins caller call block) holds = record { asks = λ e. absurd (none_asks e); before = λ b. absurd b; lists = is.lists }

@@ -36,7 +36,7 @@ use Rattle.controller_messages.specs.Heard.{Heard, Nothing, Answers, Responds, R
 use Rattle.controller_messages.specs.Heard.{Cyclic as Comes}
 use Rattle.controller_messages.specs.PlugRequests.{is_plug_answer, is_plug_ready, plug_ready_in}
 use Rattle.controller_messages.specs.RecordRequests.{most_record_octets}
-use Rattle.controller_messages.specs.Requests.{first_of, writing_from}
+use Rattle.controller_messages.specs.Requests.{first_of, writing_from, writing_after}
 use Rattle.controller_messages.specs.Sent.{done as no_error}
 use Rattle.controller_core.specs.declared.stored.event.Event.{Event}
 use Rattle.controller_core.specs.declared.stored.event.Event.TheVariants.{Frame, Tick, Give, Status, Read, Write, Stop}
@@ -48,17 +48,18 @@ use Rattle.controller_core.specs.declared.stored.state.State.TheVariants.{Lookin
 use Rattle.controller_core.specs.stored.State.{Live, is_limited, phase_for}
 use Rattle.controller_messages.specs.Access.{Accessing, answered_with, is_free, is_rejected, is_reply, record_in, unplugged}
 use Rattle.controller_core.specs.stored.Alarms.{is_alarm}
-use Rattle.controller_core.specs.start_up.Answers.{is_addressed, is_answer, is_found, is_held, is_ready, is_refused, is_right, is_set_answer, is_state_conflict}
+use Rattle.controller_core.specs.start_up.Answers.{is_addressed, is_answer, is_found, is_held, is_ready, is_refused, is_right, is_set_answer, is_state_conflict, is_tried}
 use Rattle.connects.specs.answers.Connect.{Chosen, chosen_by, chosen_of, found_in, is_whole, nothing}
 use Rattle.controller_core.specs.declared.start_up.outcomes.Outcomes.{Outcomes}
 use Rattle.controller_core.specs.declared.start_up.outcomes.Outcomes.TheVariants.{AllWritten, Unreadable}
 use Rattle.controller_core.specs.declared.start_up.outcomes.Outcomes.TheVariants.{Refused as Denied}
 use Rattle.controller_core.specs.start_up.Outcomes.{are_written, is_all_written, outcomes_of}
-use Rattle.controller_core.specs.Machine.{Turn, acked_under, after_turn, after_write, answered, asks_next, begun_turn, behind_ack, beside, brings, brought, called, can_begin, can_request, connected, decided, done, failed, flowed, gone_on, granted, is_again, is_exchanging, is_plug_awaited, is_spent, handled, later, end_of, noticed, placed, plug_called, plug_rejected, plug_replied, plug_responded, plugs_by, plugs_of, quit, readied, past_record, refused, refused_beside, refused_by, rejected, related_by, replied, replied_by, request_for, requested, requests_of, responded, standing, stays, stopped, turn_of, turned, undone, noted, where_due, with_end, writing, written}
+use Rattle.controller_core.specs.Machine.{Turn, acked_under, after_turn, after_write, answered, asks_next, begun_turn, behind_ack, beside, brings, brought, called, can_begin, can_request, connected, decided, done, failed, flowed, gone_on, granted, is_again, is_exchanging, is_plug_awaited, is_spent, handled, later, end_of, noticed, placed, plug_called, plug_rejected, plug_replied, plug_responded, plugs_by, plugs_of, quit, readied, past_record, refused, refused_beside, refused_by, rejected, related_by, replied, replied_by, request_for, requested, requests_of, responded, standing, stays, stopped, turn_of, turned, undone, noted, where_due, with_end, writing, written, trying, refused_end, refused_write}
 use Rattle.controller_core.specs.start_up.Answers.{ready_in}
+use Rattle.controller_core.specs.start_up.Requests.{behind_write, end_after, tried_as, tries_before, write_after}
 use Rattle.end_laws.specs.turns.Beside.{flow_begun}
 use Rattle.end_laws.specs.turns.Ended.{may_release}
-use Rattle.end_laws.specs.turns.Turns.{Came, Hears, Passes, Gets, GetsStatus, AsksRead, AsksWrite, Halts, Found, IsGoing, IsGranted, IsKind, IsReadied, IsSought, IsReported, IsStepped, IsTurn, Kind, Rests, Connects, Addresses, Ends, Releases, Relates, Writes, Skips, Waits, Forgets, Begins, Repeats, Follows, Takes, IsAcked, Gives, GivesStatus, Asks, IsReplied, IsPlugAnswered, IsPlugReadied, Flows, Breaks, Idles, came_by, chosen_in, turn_by, turn_for, units_behind}
+use Rattle.end_laws.specs.turns.Turns.{Came, Hears, Passes, Gets, GetsStatus, AsksRead, AsksWrite, Halts, Found, IsGoing, IsGranted, IsKind, IsReadied, IsSought, IsReported, IsStepped, IsTurn, Kind, Rests, Connects, Addresses, Ends, Releases, Relates, Writes, Skips, Tries, Waits, Forgets, Begins, Repeats, Follows, Takes, IsAcked, Gives, GivesStatus, Asks, IsReplied, IsPlugAnswered, IsPlugReadied, Flows, Breaks, Idles, came_by, chosen_in, turn_by, turn_for, units_behind}
 use Rattle.end_laws.proofs.TurnsBeside.{IsPlugStep, exchanging_is, gone_is, idle_is, none_is, rejected_asks, rejected_now, rejected_step, replied_asks, replied_step, stepped_octets, stepped_waiting, unit_begun}
 
 -- No other phase is an end.
@@ -90,6 +91,19 @@ is_release request = false
 pub unreported : (plan : Parts) (request : Request) (cause : Cause) → is_release request ≡ false → IsReported plan cause (Some request) → ⊥
 unreported plan (asks.Release sequence) cause other reported = false≢true (sym other)
 unreported plan request cause other reported = reported
+
+pub write_going : (number : ℕ) (tries : Option ℕ) → is_release (write_after number tries) ≡ false
+write_going number None = refl
+write_going number (Some tries) = refl
+
+pub end_going : (tries : Option ℕ) → is_release (end_after tries) ≡ false
+end_going None = refl
+end_going (Some tries) = refl
+
+-- Only a Write and PrmEnd are tried again.
+pub tried_going : (request next : Request) → tried_as request ≡ Some next → is_release request ≡ false
+tried_going (asks.Release sequence) next e = absurd cc
+tried_going request next e = refl
 
 module _ (setup : Setup) (live : Live) where
   going : (phase : State) → live.phase ≡ phase → is_over phase ≡ false → IsGoing setup.plan live
@@ -179,6 +193,7 @@ module _ (setup : Setup) (live : Live) where
   -- No data is exchanged while the records are written.
   waits_none : (request : Request) → is_exchanging (phase_for request) ≡ false
   waits_none (asks.Write number) = refl
+  waits_none (asks.WriteAfter number tries) = refl
   waits_none request = refl
 
   writing_none : (request : Request) (next : Live) → after_turn setup (can_begin live) (writing setup request next) ≡ writing setup request next
@@ -266,45 +281,89 @@ module _ (setup : Setup) (live : Live) where
       connected_is None e = rests_then heard_now
 
     -- a record is refused, which is the one with this number
-    passed_is : (number refused : ℕ) (status : Code) → live.asked ≡ Some (asks.Write number) → is_answer setup (asks.Write number) response.header ≡ true
+    passed_is : (number : ℕ) (tries : Option ℕ) (refused : ℕ) (status : Code) → live.asked ≡ Some (write_after number tries)
+        → is_answer setup (write_after number tries) response.header ≡ true
         → (is_done response.status && are_written setup.plan number response.blocks) ≡ false
-        → Then heard_now (past_record setup number (noted status refused live))
-    passed_is number refused status stood right negative =
+        → Then heard_now (past_record setup (behind_write setup.plan number tries) (noted status refused live))
+    passed_is number tries refused status stood right negative =
         by_cases_then setup.plan.continue_on_refused_record
-        (λ goes. alone heard_now (Skips number refused status)
+        (λ goes. alone heard_now (Skips number tries refused status)
         (record { stood = stood; response = response; comes = refl; right = right; refused = negative; goes_on = goes })
-        (writing_none (writing_from setup.plan (number + 1)) (noted status refused live)))
+        (writing_none (behind_write setup.plan number tries) (noted status refused live)))
         (λ ends. by_cases_then setup.plan.release_on_refused_record
         (λ informs. releases_then heard_now why.Refused (Some status) (Some (record { number = refused; status = status }))
-        (asked_going (asks.Write number) stood refl) (or_left setup.plan.release_on_refused_record setup.plan.persistent_start informs) refl)
+        (asked_going (write_after number tries) stood (write_going number tries)) (or_left setup.plan.release_on_refused_record setup.plan.persistent_start informs) refl)
         (λ silent. ends_then heard_now why.Refused (Some status) (Some (record { number = refused; status = status }))
-        (asked_going (asks.Write number) stood refl) refl))
+        (asked_going (write_after number tries) stood (write_going number tries)) refl))
 
     -- a Write is answered, and this became of its records
-    outcomes_is : (number : ℕ) → live.asked ≡ Some (asks.Write number) → is_answer setup (asks.Write number) response.header ≡ true → is_done response.status ≡ true
-        → (outcomes : Outcomes) → outcomes_of setup.plan number response.blocks ≡ outcomes → Then heard_now (after_write setup live number outcomes)
-    outcomes_is number stood right granted AllWritten e =
-        alone heard_now (Writes number) (granted_by (asks.Write number) stood right granted, ap is_all_written e) (writing_none (writing_from setup.plan (number + 1)) live)
-    outcomes_is number stood right granted (Denied place status) e =
-        passed_is number (first_of setup.plan number + place) status stood right
+    outcomes_is : (number : ℕ) (tries : Option ℕ) → live.asked ≡ Some (write_after number tries) → is_answer setup (write_after number tries) response.header ≡ true
+        → is_done response.status ≡ true → (outcomes : Outcomes) → outcomes_of setup.plan number response.blocks ≡ outcomes
+        → Then heard_now (after_write setup live number (behind_write setup.plan number tries) outcomes)
+    outcomes_is number tries stood right granted AllWritten e =
+        alone heard_now (Writes number tries) (granted_by (write_after number tries) stood right granted, ap is_all_written e)
+        (writing_none (behind_write setup.plan number tries) live)
+    outcomes_is number tries stood right granted (Denied place status) e =
+        passed_is number tries (first_of setup.plan number + place) status stood right
         (ap (λ (b : Bool). b && are_written setup.plan number response.blocks) granted ∙ ap is_all_written e)
-    outcomes_is number stood right granted Unreadable e = rests_then heard_now
+    outcomes_is number tries stood right granted Unreadable e = rests_then heard_now
+
+    -- PrmEnd is accepted
+    ended_is : (tries : Option ℕ) → live.asked ≡ Some (end_after tries) → is_answer setup (end_after tries) response.header ≡ true → is_done response.status ≡ true
+        → Then heard_now (turn_by setup live (Waits tries))
+    ended_is tries stood right granted =
+        alone heard_now (Waits tries) (granted_by (end_after tries) stood right granted)
+        (none_now (turn_by setup live (Waits tries)) (never live.stands (is_free live.access && is_some (next_waiting live.places))))
+
+    -- a Write, or PrmEnd, is refused as busy, and tried again
+    tried_is : (request next : Request) → tried_as request ≡ Some next → live.asked ≡ Some request → is_answer setup request response.header ≡ true
+        → is_done response.status ≡ false → is_tried setup.plan response.status (tries_before request) ≡ true → Then heard_now (trying next response.status live)
+    tried_is request next tries stood right negative again =
+        alone heard_now (Tries next response.status) (record {
+          request = request;
+          stood = stood;
+          tries = tries;
+          response = response;
+          comes = refl;
+          right = right;
+          negative = negative;
+          is_status = refl;
+          again = again;
+        })
+        (as_before (trying next response.status live) refl)
 
     done_is : (request : Request) → live.asked ≡ Some request → is_answer setup request response.header ≡ true → is_done response.status ≡ true
         → Then heard_now (done setup live response.blocks request)
     done_is asks.Identify stood right granted = rests_then heard_now
     done_is asks.Address stood right granted = rests_then heard_now
     done_is asks.Connect stood right granted = connected_is stood right granted (found_in 400 response.blocks nothing) refl
-    done_is (asks.Write number) stood right granted = outcomes_is number stood right granted (outcomes_of setup.plan number response.blocks) refl
-    done_is asks.PrmEnd stood right granted =
-        alone heard_now Waits (granted_by asks.PrmEnd stood right granted)
-        (none_now (turn_by setup live Waits) (never live.stands (is_free live.access && is_some (next_waiting live.places))))
+    done_is (asks.Write number) stood right granted = outcomes_is number None stood right granted (outcomes_of setup.plan number response.blocks) refl
+    done_is (asks.WriteAfter number tries) stood right granted =
+        outcomes_is number (Some tries) stood right granted (outcomes_of setup.plan number response.blocks) refl
+    done_is asks.PrmEnd stood right granted = ended_is None stood right granted
+    done_is (asks.PrmEndAfter tries) stood right granted = ended_is (Some tries) stood right granted
     done_is (asks.Release sequence) stood right granted = forgets sequence stood right
 
     undone_is : (request : Request) → live.asked ≡ Some request → is_answer setup request response.header ≡ true → is_release request ≡ false → is_done response.status ≡ false
         → Then heard_now (undone setup live response.status request)
     undone_is (asks.Write number) stood right other negative =
-        passed_is number (first_of setup.plan number) response.status stood right (ap (λ (b : Bool). b && are_written setup.plan number response.blocks) negative)
+        if_so_then (is_tried setup.plan response.status 0)
+        (λ again. tried_is (asks.Write number) (asks.WriteAfter number 1) refl stood right negative again)
+        (passed_is number None (first_of setup.plan number) response.status stood right
+        (ap (λ (b : Bool). b && are_written setup.plan number response.blocks) negative))
+    undone_is (asks.WriteAfter number tries) stood right other negative =
+        if_so_then (is_tried setup.plan response.status tries)
+        (λ again. tried_is (asks.WriteAfter number tries) (asks.WriteAfter number (tries + 1)) refl stood right negative again)
+        (passed_is number (Some tries) (first_of setup.plan number) response.status stood right
+        (ap (λ (b : Bool). b && are_written setup.plan number response.blocks) negative))
+    undone_is asks.PrmEnd stood right other negative =
+        if_so_then (is_tried setup.plan response.status 0)
+        (λ again. tried_is asks.PrmEnd (asks.PrmEndAfter 1) refl stood right negative again)
+        (ends_then heard_now why.Refused (Some response.status) live.refused_record (asked_going asks.PrmEnd stood other) refl)
+    undone_is (asks.PrmEndAfter tries) stood right other negative =
+        if_so_then (is_tried setup.plan response.status tries)
+        (λ again. tried_is (asks.PrmEndAfter tries) (asks.PrmEndAfter (tries + 1)) refl stood right negative again)
+        (ends_then heard_now why.Refused (Some response.status) live.refused_record (asked_going (asks.PrmEndAfter tries) stood other) refl)
     undone_is asks.Connect stood right other negative =
         by_cases_then (is_held setup.plan response.status)
         (λ held. releases_then heard_now why.Refused (Some response.status) live.refused_record (asked_going asks.Connect stood refl)

@@ -31,12 +31,13 @@ use Rattle.controller_core.specs.declared.stored.state.State.TheVariants.{Lookin
 use Rattle.controller_core.specs.stored.Alarms.{ack_of, kept_alarm}
 use Rattle.controller_core.specs.stored.State.{Controlling, Live, is_limited, is_writing, left_in, patience_in, phase_for}
 use Rattle.controller_core.specs.Machine.{Turn, acking, after_turn, asks_next, behind_ack, behind_data, brought, can_begin, confirming, end_of, flow_later, flowed, fresh_with, gone_on, is_again, is_spent, keeping, later, plug_readied, quit, requests_of, stays, step_of, taken, ticked, turn_of, where_due, with_end}
+use Rattle.controller_core.specs.start_up.Requests.{behind_write, end_after, write_after}
 use Rattle.end_laws.specs.controller.Small.{IsInStep, IsSteady}
 use Rattle.end_laws.specs.turns.Beside.{IsBeside, MayFollow, flow_begun}
 use Rattle.end_laws.specs.turns.Ended.{is_unit, release_in}
 use Rattle.end_laws.specs.turns.Patience.{EndsInTime, HasTimeLeft, IsInformed, NoneLastsLonger, StaysIn, patience_of, units_in}
 use Rattle.end_laws.specs.turns.Runs.{IsReached, behind_all}
-use Rattle.end_laws.specs.turns.Turns.{Came, Passes, IsKind, Kind, Rests, Connects, Addresses, Ends, Releases, Relates, Writes, Skips, Waits, Forgets, Begins, Repeats, Follows, Takes, IsAcked, Gives, GivesStatus, Asks, IsReplied, IsPlugAnswered, IsPlugReadied, Flows, Breaks, Idles, came_by, turn_by}
+use Rattle.end_laws.specs.turns.Turns.{Came, Passes, IsKind, Kind, Rests, Connects, Addresses, Ends, Releases, Relates, Writes, Skips, Tries, Waits, Forgets, Begins, Repeats, Follows, Takes, IsAcked, Gives, GivesStatus, Asks, IsReplied, IsPlugAnswered, IsPlugReadied, Flows, Breaks, Idles, came_by, turn_by}
 use Rattle.end_laws.proofs.TurnsBeside.{begins, begun_beside, flows, follows, gone_is, unit_begun}
 use Rattle.end_laws.proofs.TurnsOneTurn.{event_is}
 use Rattle.end_laws.proofs.ControllerTurns.{event_goes}
@@ -91,34 +92,97 @@ connecting_is : (plan : Parts) (phase : State) (asked : Option Request) → IsIn
 connecting_is plan Looking asked is e = absurd cc
 connecting_is plan Addressing asked is e = absurd cc
 connecting_is plan Connecting asked is e = refl
-connecting_is plan Writing asked is e = let there = is.2 in absurd cc
-connecting_is plan Ending asked is e = absurd cc
+connecting_is plan Writing asked is e = absurd (not_write is.1 (sym e ∙ is.3))
+  where
+    not_write : (tries : Option ℕ) → Some asks.Connect ≡ Some (write_after is.0 tries) → ⊥
+    not_write None f = absurd cc
+    not_write (Some tries) f = absurd cc
+connecting_is plan Ending asked is e = absurd (not_end is.0 (sym e ∙ is.1))
+  where
+    not_end : (tries : Option ℕ) → Some asks.Connect ≡ Some (end_after tries) → ⊥
+    not_end None f = absurd cc
+    not_end (Some tries) f = absurd cc
 connecting_is plan Waiting asked is e = absurd cc
 connecting_is plan Exchanging asked is e = absurd cc
 connecting_is plan (Ended cause) asked (inl is) e = absurd cc
 connecting_is plan (Ended cause) asked (inr is) e = let there = is.1 in absurd cc
 
-writing_is : (plan : Parts) (phase : State) (asked : Option Request) (number : ℕ) → IsInStep plan phase asked → asked ≡ Some (asks.Write number) → phase ≡ Writing
-writing_is plan Looking asked number is e = absurd cc
-writing_is plan Addressing asked number is e = absurd cc
-writing_is plan Connecting asked number is e = absurd cc
-writing_is plan Writing asked number is e = refl
-writing_is plan Ending asked number is e = absurd cc
-writing_is plan Waiting asked number is e = absurd cc
-writing_is plan Exchanging asked number is e = absurd cc
-writing_is plan (Ended cause) asked number (inl is) e = absurd cc
-writing_is plan (Ended cause) asked number (inr is) e = let there = is.1 in absurd cc
+-- The phase to which an active request belongs: a Write, PrmEnd, or another one.
+abbrev phase_of : Request → State
+phase_of (asks.Write number) = Writing
+phase_of (asks.WriteAfter number tries) = Writing
+phase_of asks.PrmEnd = Ending
+phase_of (asks.PrmEndAfter tries) = Ending
+phase_of request = Connecting
 
-ending_is : (plan : Parts) (phase : State) (asked : Option Request) → IsInStep plan phase asked → asked ≡ Some asks.PrmEnd → phase ≡ Ending
-ending_is plan Looking asked is e = absurd cc
-ending_is plan Addressing asked is e = absurd cc
-ending_is plan Connecting asked is e = absurd cc
-ending_is plan Writing asked is e = let there = is.2 in absurd cc
-ending_is plan Ending asked is e = refl
-ending_is plan Waiting asked is e = absurd cc
-ending_is plan Exchanging asked is e = absurd cc
-ending_is plan (Ended cause) asked (inl is) e = absurd cc
-ending_is plan (Ended cause) asked (inr is) e = let there = is.1 in absurd cc
+write_phase : (number : ℕ) (tries : Option ℕ) → phase_of (write_after number tries) ≡ Writing
+write_phase number None = refl
+write_phase number (Some tries) = refl
+
+end_phase : (tries : Option ℕ) → phase_of (end_after tries) ≡ Ending
+end_phase None = refl
+end_phase (Some tries) = refl
+
+-- Requests of two phases are two requests.
+same_phase : (asked : Option Request) (one other : Request) → asked ≡ Some one → asked ≡ Some other → phase_of one ≡ phase_of other
+same_phase asked one other is e = ap phase_of (same (sym is ∙ e))
+  where
+    same : Some one ≡ Some other → one ≡ other
+    same f = cc
+
+no_connecting : {P : Type 0} (phase : State) → phase ≡ Connecting → (phase ≡ Writing) ⊎ (phase ≡ Ending) → P
+no_connecting phase is (inl e) = absurd cc
+no_connecting phase is (inr e) = absurd cc
+
+writing_is : (plan : Parts) (phase : State) (asked : Option Request) (number : ℕ) (tries : Option ℕ) → IsInStep plan phase asked → asked ≡ Some (write_after number tries)
+    → phase ≡ Writing
+writing_is plan phase asked number tries is e = by_phase phase is
+  where
+    never : (one : Request) → asked ≡ Some one → phase_of one ≡ Connecting → ⊥
+    never one stood other = no_connecting (phase_of one) other (inl (same_phase asked one (write_after number tries) stood e ∙ write_phase number tries))
+
+    none : None ≡ Some (write_after number tries) → ⊥
+    none f = cc
+
+    not_ending : (p : State) → p ≡ Ending → p ≡ Writing → ⊥
+    not_ending p one other = absurd cc
+
+    by_phase : (now : State) → IsInStep plan now asked → now ≡ Writing
+    by_phase Looking stood = absurd (never asks.Identify stood refl)
+    by_phase Addressing stood = absurd (never asks.Address stood refl)
+    by_phase Connecting stood = absurd (never asks.Connect stood refl)
+    by_phase Writing stood = refl
+    by_phase Ending stood =
+        absurd (not_ending (phase_of (end_after stood.0)) (end_phase stood.0) (same_phase asked (end_after stood.0) (write_after number tries) stood.1 e ∙ write_phase number tries))
+    by_phase Waiting stood = absurd (none (sym stood ∙ e))
+    by_phase Exchanging stood = absurd (none (sym stood ∙ e))
+    by_phase (Ended cause) (inl stood) = absurd (none (sym stood ∙ e))
+    by_phase (Ended cause) (inr stood) = absurd (never (asks.Release stood.0) stood.1 refl)
+
+ending_is : (plan : Parts) (phase : State) (asked : Option Request) (tries : Option ℕ) → IsInStep plan phase asked → asked ≡ Some (end_after tries) → phase ≡ Ending
+ending_is plan phase asked tries is e = by_phase phase is
+  where
+    never : (one : Request) → asked ≡ Some one → phase_of one ≡ Connecting → ⊥
+    never one stood other = no_connecting (phase_of one) other (inr (same_phase asked one (end_after tries) stood e ∙ end_phase tries))
+
+    none : None ≡ Some (end_after tries) → ⊥
+    none f = cc
+
+    not_writing : (p : State) → p ≡ Writing → p ≡ Ending → ⊥
+    not_writing p one other = absurd cc
+
+    by_phase : (now : State) → IsInStep plan now asked → now ≡ Ending
+    by_phase Looking stood = absurd (never asks.Identify stood refl)
+    by_phase Addressing stood = absurd (never asks.Address stood refl)
+    by_phase Connecting stood = absurd (never asks.Connect stood refl)
+    by_phase Writing stood =
+        absurd (not_writing (phase_of (write_after stood.0 stood.1)) (write_phase stood.0 stood.1)
+        (same_phase asked (write_after stood.0 stood.1) (end_after tries) stood.3 e ∙ end_phase tries))
+    by_phase Ending stood = refl
+    by_phase Waiting stood = absurd (none (sym stood ∙ e))
+    by_phase Exchanging stood = absurd (none (sym stood ∙ e))
+    by_phase (Ended cause) (inl stood) = absurd (none (sym stood ∙ e))
+    by_phase (Ended cause) (inr stood) = absurd (never (asks.Release stood.0) stood.1 refl)
 
 not_connecting : (request : Request) → phase_for request ≡ Connecting → ⊥
 not_connecting (asks.Write number) e = cc
@@ -127,6 +191,8 @@ not_connecting asks.Address e = cc
 not_connecting asks.Connect e = cc
 not_connecting asks.PrmEnd e = cc
 not_connecting (asks.Release sequence) e = cc
+not_connecting (asks.WriteAfter number tries) e = cc
+not_connecting (asks.PrmEndAfter tries) e = cc
 
 not_sought : (phase : State) → Connecting ≡ phase → (phase ≡ Looking) ⊎ (phase ≡ Addressing) → ⊥
 not_sought phase e (inl is) = absurd cc
@@ -195,10 +261,10 @@ module _ (setup : Setup) (live : Live) (timed : IsTimed setup.options live.phase
 
   module _ (came : Came) (other : came ≡ Passes → ⊥) (steady : IsSteady setup.plan live) where
     -- The next Write, or PrmEnd.
-    writes_on : (number : ℕ) (next : Request) → live.asked ≡ Some (asks.Write number) → phase_for next ≡ live.phase
+    writes_on : (number : ℕ) (tries : Option ℕ) (next : Request) → live.asked ≡ Some (write_after number tries) → phase_for next ≡ live.phase
         → left_in setup.options live.left live.phase (phase_for next) ≤ live.left
-    writes_on number next stood e =
-        let now : live.phase ≡ Writing = writing_is setup.plan live.phase live.asked number steady.asked stood in
+    writes_on number tries next stood e =
+        let now : live.phase ≡ Writing = writing_is setup.plan live.phase live.asked number tries steady.asked stood in
         let is : left_in setup.options live.left live.phase (phase_for next) ≡ live.left =
         ap (λ (p : State). left_in setup.options live.left p (phase_for next)) now ∙ ap (λ (p : State). left_in setup.options live.left Writing p) (e ∙ now) in
         omega (arith, is)
@@ -215,14 +281,15 @@ module _ (setup : Setup) (live : Live) (timed : IsTimed setup.options live.phase
         let next = writing_from setup.plan 0 in
         let now : live.phase ≡ Connecting = connecting_is setup.plan live.phase live.asked steady.asked holds.0.stood in
         record { timed_on = entered setup.options live.left live.phase (phase_for next) timed; same = λ e. absurd (not_connecting next (e ∙ now)) }
-    kind_lasts (Writes number) holds =
-        let next = writing_from setup.plan (number + 1) in
-        record { timed_on = entered setup.options live.left live.phase (phase_for next) timed; same = λ e. writes_on number next holds.0.stood e }
-    kind_lasts (Skips number refused status) holds =
-        let next = writing_from setup.plan (number + 1) in
-        record { timed_on = entered setup.options live.left live.phase (phase_for next) timed; same = λ e. writes_on number next holds.stood e }
-    kind_lasts Waits holds =
-        let now : live.phase ≡ Ending = ending_is setup.plan live.phase live.asked steady.asked holds.stood in
+    kind_lasts (Writes number tries) holds =
+        let next = behind_write setup.plan number tries in
+        record { timed_on = entered setup.options live.left live.phase (phase_for next) timed; same = λ e. writes_on number tries next holds.0.stood e }
+    kind_lasts (Skips number tries refused status) holds =
+        let next = behind_write setup.plan number tries in
+        record { timed_on = entered setup.options live.left live.phase (phase_for next) timed; same = λ e. writes_on number tries next holds.stood e }
+    kind_lasts (Tries next status) holds = alike_lasts _ [] (refl, refl)
+    kind_lasts (Waits tries) holds =
+        let now : live.phase ≡ Ending = ending_is setup.plan live.phase live.asked tries steady.asked holds.stood in
         record { timed_on = begun setup.options.waiting_patience; same = λ e. absurd (not_ending live.phase e now) }
     kind_lasts Forgets holds = alike_lasts _ [] (refl, refl)
     kind_lasts (Begins caller call block) holds = record { timed_on = unlimited; same = λ e. omega arith }

@@ -27,12 +27,13 @@ use Rattle.controller_core.specs.stored.Alarms.{ack_of, kept_alarm}
 use Rattle.controller_core.specs.Machine.{Turn, acking, after_turn, asks_next, behind_ack, behind_data, can_begin, confirming, diagnosing, end_of, first, flow_later, fresh_with, keeping, noted, over, plug_readied, released, standing, stays, step_of, taken, turn_of, with_end, writing}
 use Rattle.controller_core.specs.stored.Cause.{cause_of}
 use Rattle.controller_core.specs.stored.State.{phase_for}
+use Rattle.controller_core.specs.start_up.Requests.{behind_write}
 use Rattle.end_laws.specs.turns.Beside.{IsBegun, MayBegin, MayFollow, flow_begun}
 use Rattle.end_laws.specs.turns.Ended.{HasEnded, may_release}
 use Rattle.end_laws.specs.turns.Runs.{IsReached, behind_all}
-use Rattle.end_laws.specs.turns.Turns.{Came, IsEnd, IsKind, IsReported, Kind, Rests, Connects, Addresses, Ends, Releases, Relates, Writes, Skips, Waits, Forgets, Begins, Repeats, Follows, Takes, IsAcked, Gives, GivesStatus, Asks, IsReplied, IsPlugAnswered, IsPlugReadied, Flows, Breaks, Idles, came_by, turn_by}
+use Rattle.end_laws.specs.turns.Turns.{Came, IsEnd, IsKind, IsReported, Kind, Rests, Connects, Addresses, Ends, Releases, Relates, Writes, Skips, Tries, Waits, Forgets, Begins, Repeats, Follows, Takes, IsAcked, Gives, GivesStatus, Asks, IsReplied, IsPlugAnswered, IsPlugReadied, Flows, Breaks, Idles, came_by, turn_by}
 use Rattle.end_laws.proofs.TurnsBeside.{flows, follows}
-use Rattle.end_laws.proofs.TurnsOneTurn.{event_is, is_over, not_over}
+use Rattle.end_laws.proofs.TurnsOneTurn.{event_is, is_over, not_over, unreported, tried_going}
 
 -- After a turn the controller has not ended, or its end is complete.
 pub record Kept (plan : Parts) (turn : Turn) : Type 0 where
@@ -110,6 +111,7 @@ releases setup mine live reported = record {
 
 goes_by : (request : Request) → is_over (phase_for request) ≡ false
 goes_by (asks.Write number) = refl
+goes_by (asks.WriteAfter number tries) = refl
 goes_by request = refl
 
 writing_kept : (setup : Setup) (request : Request) (live : Live) → Kept setup.plan (writing setup request live)
@@ -169,9 +171,13 @@ kept_by setup live came (Addresses source) holds k = goes_on setup.plan _ _ refl
 kept_by setup live came (Ends cause refusal refused units) holds k = ends setup.plan cause (record live { refusal = refusal; refused_record = refused; units = units }) []
 kept_by setup live came (Releases cause refusal refused units) holds k = releases setup cause (record live { refusal = refusal; refused_record = refused; units = units }) holds.1
 kept_by setup live came (Relates places chosen) holds k = writing_kept setup (writing_from setup.plan 0) (standing setup (record live { places = places }) chosen)
-kept_by setup live came (Writes number) holds k = writing_kept setup (writing_from setup.plan (number + 1)) live
-kept_by setup live came (Skips number refused status) holds k = writing_kept setup (writing_from setup.plan (number + 1)) (noted status refused live)
-kept_by setup live came Waits holds k = goes_on setup.plan _ _ refl
+kept_by setup live came (Writes number tries) holds k = writing_kept setup (behind_write setup.plan number tries) live
+kept_by setup live came (Skips number tries refused status) holds k = writing_kept setup (behind_write setup.plan number tries) (noted status refused live)
+kept_by setup live came (Tries next status) holds k = record {
+  whole = λ cause e. absurd (unreported setup.plan holds.request cause (tried_going holds.request next holds.tries)
+      (subst (λ (o : Option Request). IsReported setup.plan cause o) holds.stood (k.whole cause e).asked));
+}
+kept_by setup live came (Waits tries) holds k = goes_on setup.plan _ _ refl
 kept_by setup live came Forgets holds k = unasked setup.plan live k
 kept_by setup live came (Begins caller call block) holds k = goes_on setup.plan _ _ refl
 kept_by setup live came (Repeats caller call block) holds k = same setup.plan live live _ refl refl refl (inl refl) (inl refl) k

@@ -20,6 +20,7 @@ use Rattle.controller_core.specs.declared.stored.state.State.{State}
 use Rattle.controller_core.specs.declared.stored.state.State.TheVariants.{Looking, Addressing, Ending, Waiting, Exchanging, Ended}
 use Rattle.controller_core.specs.stored.State.{Live}
 use Rattle.controller_core.specs.Machine.{Turn, after_turn, asks_next, begun_turn, can_begin, plugs_of, stays, turn_of}
+use Rattle.controller_core.specs.start_up.Requests.{tried_as}
 use Rattle.end_laws.specs.turns.Turns.{Came, Hears, Passes, Gets, GetsStatus, AsksRead, AsksWrite, Halts, IsKind, IsTurn, Kind, came_by, turn_by, turn_for}
 use Rattle.end_laws.specs.turns.Turns as kind
 use Rattle.end_laws.proofs.TurnsCauses.{turn_by_event}
@@ -37,6 +38,11 @@ no_phase P cause phase other is so apart = absurd (apart (sym is ∙ so))
 -- an active request is only a Release
 no_request : (asked : Option Request) (request : Request) → IsReleasedOnly asked → asked ≡ Some request → IsReleasedOnly (Some request)
 no_request asked request only is = subst (λ (a : Option Request). IsReleasedOnly a) is only
+
+-- only a Write and PrmEnd are tried again
+no_tries : (request next : Request) → tried_as request ≡ Some next → IsReleasedOnly (Some request) → ⊥
+no_tries (asks.Release sequence) next e only = absurd cc
+no_tries other next e only = only
 
 module _ (setup : Setup) (live : Live) (came : Came) (over : IsOver live) where
   not_up : (P : Type 0) → live.stands ≡ true → P
@@ -71,9 +77,13 @@ module _ (setup : Setup) (live : Live) (came : Came) (over : IsOver live) where
   ended_by (kind.Ends cause refusal refused units) holds = record { phase = (cause, refl); down = refl; asked = tt }
   ended_by (kind.Releases cause refusal refused units) holds = record { phase = (cause, refl); down = refl; asked = tt }
   ended_by (kind.Relates places chosen) holds = absurd (no_request live.asked asks.Connect over.asked holds.0.stood)
-  ended_by (kind.Writes number) holds = absurd (no_request live.asked (asks.Write number) over.asked holds.0.stood)
-  ended_by (kind.Skips number refused status) holds = absurd (no_request live.asked (asks.Write number) over.asked holds.stood)
-  ended_by kind.Waits holds = absurd (no_request live.asked asks.PrmEnd over.asked holds.stood)
+  ended_by (kind.Writes number None) holds = absurd (no_request live.asked (asks.Write number) over.asked holds.0.stood)
+  ended_by (kind.Writes number (Some tries)) holds = absurd (no_request live.asked (asks.WriteAfter number tries) over.asked holds.0.stood)
+  ended_by (kind.Skips number None refused status) holds = absurd (no_request live.asked (asks.Write number) over.asked holds.stood)
+  ended_by (kind.Skips number (Some tries) refused status) holds = absurd (no_request live.asked (asks.WriteAfter number tries) over.asked holds.stood)
+  ended_by (kind.Tries next status) holds = absurd (no_tries holds.request next holds.tries (subst (λ (a : Option Request). IsReleasedOnly a) holds.stood over.asked))
+  ended_by (kind.Waits None) holds = absurd (no_request live.asked asks.PrmEnd over.asked holds.stood)
+  ended_by (kind.Waits (Some tries)) holds = absurd (no_request live.asked (asks.PrmEndAfter tries) over.asked holds.stood)
   ended_by kind.Forgets holds = record { phase = over.phase; down = over.down; asked = tt }
   ended_by (kind.Begins caller call block) holds = by_phase holds.0
     where

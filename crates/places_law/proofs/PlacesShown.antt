@@ -1,5 +1,5 @@
 -- What a controller says of the places of its plan is what the alarms that it accepted report of them.
-use Rattle.std.proofs.Common.{◌≡◌, ◌==◌, ◌&&◌, ◌||◌, ◌++◌, ◌+◌, ℕ, Bool, true, false, cond, not, List, [], ◌∷◌, length, map, Option, Some, None, refl, sym, ap, subst, ◌∙◌, append-nil}
+use Rattle.std.proofs.Common.{◌≡◌, ◌==◌, ◌&&◌, ◌||◌, ◌++◌, ◌+◌, ℕ, Bool, true, false, cond, not, List, [], ◌∷◌, length, map, Option, Some, None, refl, sym, ap, subst, ◌∙◌, append-nil, if◌then◌else◌}
 use Rattle.std.specs.Prelude.{nat_lt}
 use Rattle.std.proofs.lemmas.Bool.{and_parts, false≢true}
 use Rattle.pn_values.specs.declared.mac.Mac.{Mac}
@@ -63,13 +63,14 @@ use Rattle.controller_core.specs.declared.stored.state.Cause.{Cause}
 use Rattle.controller_core.specs.declared.stored.state.Cause.TheVariants as cause
 use Rattle.controller_core.specs.declared.stored.state.State.{State}
 use Rattle.controller_core.specs.declared.stored.state.State.TheVariants.{Looking, Addressing, Connecting, Writing, Ending, Waiting, Exchanging, Ended}
-use Rattle.controller_core.specs.start_up.Answers.{is_addressed, is_answer, is_found, is_held, is_ready, is_refused, is_right, is_set_answer, ready_in}
+use Rattle.controller_core.specs.start_up.Answers.{is_addressed, is_answer, is_found, is_held, is_ready, is_refused, is_right, is_set_answer, ready_in, is_tried}
 use Rattle.controller_core.specs.start_up.Outcomes.{outcomes_of}
 use Rattle.controller_core.specs.stored.Alarms.{is_alarm}
 use Rattle.controller_core.specs.stored.Cause.{cause_of}
 use Rattle.controller_core.specs.stored.State.{Live, phase_for}
 use Rattle.controller_core.specs.Machine as machine
-use Rattle.controller_core.specs.Machine.{Turn, accessing, addressed, after_turn, after_write, alarmed, answered, asking, asks_next, begun_by, begun_turn, beside, brings, brought, called, can_begin, can_request, come, connected, decided, denied, end_of, exchange_later, first as first_live, flowed, found, given, gone_on, granted, is_again, is_plug_awaited, is_spent, later, noted, noticed, over, past_record, placed, plug_asked, plug_called, plug_finished, plug_passed, plug_passed_by, plug_readied, plug_refused, plug_rejected, plug_replied, plug_responded, plugs_of, quit, rated, readied, refused, refused_beside, refused_by, refused_connect, refused_place, refused_record, rejected, related_by, released, replied, replied_by, request_for, requested, responded, state_of_step, standing, stays, step_from, taken, ticked, turn_due, turn_of, turned, writing, behind_ack, behind_data, acked_under}
+use Rattle.controller_core.specs.Machine.{Turn, accessing, addressed, after_turn, after_write, alarmed, answered, asking, asks_next, begun_by, begun_turn, beside, brings, brought, called, can_begin, can_request, come, connected, decided, denied, end_of, exchange_later, first as first_live, flowed, found, given, gone_on, granted, is_again, is_plug_awaited, is_spent, later, noted, noticed, over, past_record, placed, plug_asked, plug_called, plug_finished, plug_passed, plug_passed_by, plug_readied, plug_refused, plug_rejected, plug_replied, plug_responded, plugs_of, quit, rated, readied, refused, refused_beside, refused_by, refused_connect, refused_place, refused_record, rejected, related_by, released, replied, replied_by, request_for, requested, responded, state_of_step, standing, stays, step_from, taken, ticked, turn_due, turn_of, turned, writing, behind_ack, behind_data, acked_under, refused_end, refused_write, trying}
+use Rattle.controller_core.specs.start_up.Requests.{behind_write}
 use Rattle.end_laws.specs.turns.Alarms.{is_priority, report_as}
 use Rattle.both_ends.specs.exchange.Over.{taken_by, taken_of}
 use Rattle.both_ends.proofs.ExchangeLists.{each_behind, holds_if}
@@ -120,6 +121,22 @@ next_asks false number e = absurd cc
 next_phase : (b : Bool) (number : ℕ) → IsBefore (phase_for (cond b (asks.Write number) asks.PrmEnd)) → ⊥
 next_phase true number b = b
 next_phase false number b = b
+
+after_asks : (b : Bool) (number tries : ℕ) → Some (cond b (asks.WriteAfter number tries) (asks.PrmEndAfter tries)) ≡ Some asks.Connect → ⊥
+after_asks true number tries e = absurd cc
+after_asks false number tries e = absurd cc
+
+after_phase : (b : Bool) (number tries : ℕ) → IsBefore (phase_for (cond b (asks.WriteAfter number tries) (asks.PrmEndAfter tries))) → ⊥
+after_phase true number tries b = b
+after_phase false number tries b = b
+
+behind_asks : (plan : Parts) (number : ℕ) (tries : Option ℕ) → Some (behind_write plan number tries) ≡ Some asks.Connect → ⊥
+behind_asks plan number None e = next_asks (nat_lt (number + 1) (write_count plan)) (number + 1) e
+behind_asks plan number (Some tries) e = after_asks (nat_lt (number + 1) (write_count plan)) (number + 1) tries e
+
+behind_phase : (plan : Parts) (number : ℕ) (tries : Option ℕ) → IsBefore (phase_for (behind_write plan number tries)) → ⊥
+behind_phase plan number None b = next_phase (nat_lt (number + 1) (write_count plan)) (number + 1) b
+behind_phase plan number (Some tries) b = after_phase (nat_lt (number + 1) (write_count plan)) (number + 1) tries b
 
 -- what holds of both branches, of the first one if the test holds
 held_if : {A : Type 0} (P : A → Type 0) (b : Bool) (x y : A) → (b ≡ true → P x) → P y → P (cond b x y)
@@ -289,6 +306,13 @@ module _ (Clear : Type 0) (setup : Setup) (alarms : List AlarmNotification) wher
       asks_shown (phase_for (writing_from setup.plan number)) (writing_from setup.plan number) live
       (λ e. absurd (next_asks (nat_lt number (write_count setup.plan)) number e)) (λ b. absurd (next_phase (nat_lt number (write_count setup.plan)) number b)) sees
 
+  -- the request that follows a Write
+  behind_shown : (number : ℕ) (tries : Option ℕ) (live : Live) → (live.stands ≡ true → IsSeen Clear setup alarms live)
+      → IsShown Clear setup alarms (writing setup (behind_write setup.plan number tries) live).live
+  behind_shown number tries live sees =
+      asks_shown (phase_for (behind_write setup.plan number tries)) (behind_write setup.plan number tries) live
+      (λ e. absurd (behind_asks setup.plan number tries e)) (λ b. absurd (behind_phase setup.plan number tries b)) sees
+
   connect_shown : (live : Live) → IsUnbegun live alarms → (live.stands ≡ true → IsSeen Clear setup alarms live) → IsShown Clear setup alarms (asking setup Connecting asks.Connect live).live
   connect_shown live unbegun sees = asks_shown Connecting asks.Connect live (λ e. tt) (λ b. unbegun) sees
 
@@ -363,16 +387,46 @@ module _ (Clear : Type 0) (setup : Setup) (alarms : List AlarmNotification) wher
       by_differs true f all = released_shown cause.ModuleDiff live
       by_differs false f all = by_chosen (chosen_of it) (tells it e all f)
 
-  past_shown : (number : ℕ) (live : Live) → IsShown Clear setup alarms live → Shown (past_record setup number live)
-  past_shown number live is =
-      holds_if Shown setup.plan.continue_on_refused_record (writing setup (writing_from setup.plan (number + 1)) live) (refused_record setup live) (writing_shown (number + 1) live is.sees)
+  past_shown : (number : ℕ) (tries : Option ℕ) (live : Live) → IsShown Clear setup alarms live → Shown (past_record setup (behind_write setup.plan number tries) live)
+  past_shown number tries live is =
+      holds_if Shown setup.plan.continue_on_refused_record (writing setup (behind_write setup.plan number tries) live) (refused_record setup live) (behind_shown number tries live is.sees)
       (holds_if Shown setup.plan.release_on_refused_record (released setup cause.Refused live) (stays (over cause.Refused live)) (released_shown cause.Refused live) (over_shown cause.Refused live))
 
-  after_write_shown : (live : Live) (number : ℕ) → IsShown Clear setup alarms live → (outcomes : Outcomes) → Shown (after_write setup live number outcomes)
-  after_write_shown live number is AllWritten = writing_shown (number + 1) live is.sees
-  after_write_shown live number is (Denied place status) =
-      past_shown number (noted status (first_of setup.plan number + place) live) (noted_shown status (first_of setup.plan number + place) live is)
-  after_write_shown live number is Unreadable = is
+  after_write_shown : (live : Live) (number : ℕ) (tries : Option ℕ) → IsShown Clear setup alarms live → (outcomes : Outcomes)
+      → Shown (after_write setup live number (behind_write setup.plan number tries) outcomes)
+  after_write_shown live number tries is AllWritten = behind_shown number tries live is.sees
+  after_write_shown live number tries is (Denied place status) =
+      past_shown number tries (noted status (first_of setup.plan number + place) live) (noted_shown status (first_of setup.plan number + place) live is)
+  after_write_shown live number tries is Unreadable = is
+
+  -- a Write, or PrmEnd, that is refused as busy is tried again
+  trying_shown : (status : Status) (next : Request) (live : Live) → (Some next ≡ Some asks.Connect → ⊥) → IsShown Clear setup alarms live → Shown (trying next status live)
+  trying_shown status next live no_connect is = record {
+    asks = λ e. absurd (no_connect e);
+    before = λ b. let u = is.before b in record { none = u.none; down = u.down };
+    sees = λ up. let s = is.sees up in record { clear = s.clear; own = s.own; are = s.are };
+  }
+
+  again_asks : (number tries : ℕ) → Some (asks.WriteAfter number tries) ≡ Some asks.Connect → ⊥
+  again_asks number tries e = absurd cc
+
+  end_asks : (tries : ℕ) → Some (asks.PrmEndAfter tries) ≡ Some asks.Connect → ⊥
+  end_asks tries e = absurd cc
+
+  -- the response to a Write, after this many calls were refused as busy
+  write_shown : (live : Live) (response : Response) (number : ℕ) (tries : Option ℕ) (before : ℕ) → IsShown Clear setup alarms live
+      → Shown (if is_done response.status
+      then after_write setup live number (behind_write setup.plan number tries) (outcomes_of setup.plan number response.blocks)
+      else refused_write setup live response.status number before (behind_write setup.plan number tries))
+  write_shown live response number tries before is =
+      let next = behind_write setup.plan number tries in
+      holds_if Shown (is_done response.status) (after_write setup live number next (outcomes_of setup.plan number response.blocks))
+      (refused_write setup live response.status number before next)
+      (after_write_shown live number tries is (outcomes_of setup.plan number response.blocks))
+      (holds_if Shown (is_tried setup.plan response.status before) (trying (asks.WriteAfter number (before + 1)) response.status live)
+      (past_record setup next (noted response.status (first_of setup.plan number) live))
+      (trying_shown response.status (asks.WriteAfter number (before + 1)) live (again_asks number (before + 1)) is)
+      (past_shown number tries (noted response.status (first_of setup.plan number) live) (noted_shown response.status (first_of setup.plan number) live is)))
 
   forgets_shown : (live : Live) → IsShown Clear setup alarms live → IsShown Clear setup alarms (record live { asked = None })
   forgets_shown live is = record {
@@ -386,6 +440,17 @@ module _ (Clear : Type 0) (setup : Setup) (alarms : List AlarmNotification) wher
 
   denied_shown : (status : Status) (live : Live) → IsShown Clear setup alarms (denied status live)
   denied_shown status live = over_shown cause.Refused (record live { refusal = Some status })
+
+  -- the response to PrmEnd
+  end_shown : (live : Live) (response : Response) (before : ℕ) → IsShown Clear setup alarms live
+      → Shown (if is_done response.status then stays (record live { phase = Waiting; asked = None; left = setup.options.waiting_patience })
+      else refused_end setup live response.status before)
+  end_shown live response before is =
+      holds_if Shown (is_done response.status) (stays (record live { phase = Waiting; asked = None; left = setup.options.waiting_patience }))
+      (refused_end setup live response.status before) (waits_shown live is)
+      (holds_if Shown (is_tried setup.plan response.status before) (trying (asks.PrmEndAfter (before + 1)) response.status live)
+      (stays (denied response.status live))
+      (trying_shown response.status (asks.PrmEndAfter (before + 1)) live (end_asks (before + 1)) is) (denied_shown response.status live))
 
   refused_connect_shown : (status : Status) (live : Live) → Shown (refused_connect setup live status)
   refused_connect_shown status live =
@@ -401,14 +466,10 @@ module _ (Clear : Type 0) (setup : Setup) (alarms : List AlarmNotification) wher
   handled_shown live response is tells asks.Connect e answered =
       held_if Shown (is_done response.status) (connected setup live response.blocks (found_in 400 response.blocks nothing)) (refused_connect setup live response.status)
       (λ done. connected_shown live response.blocks is (is.before (is.asks e)) (tells answered done) (found_in 400 response.blocks nothing) refl) (refused_connect_shown response.status live)
-  handled_shown live response is tells (asks.Write number) e answered =
-      holds_if Shown (is_done response.status) (after_write setup live number (outcomes_of setup.plan number response.blocks))
-      (past_record setup number (noted response.status (first_of setup.plan number) live))
-      (after_write_shown live number is (outcomes_of setup.plan number response.blocks))
-      (past_shown number (noted response.status (first_of setup.plan number) live) (noted_shown response.status (first_of setup.plan number) live is))
-  handled_shown live response is tells asks.PrmEnd e answered =
-      holds_if Shown (is_done response.status) (stays (record live { phase = Waiting; asked = None; left = setup.options.waiting_patience })) (stays (denied response.status live))
-      (waits_shown live is) (denied_shown response.status live)
+  handled_shown live response is tells (asks.Write number) e answered = write_shown live response number None 0 is
+  handled_shown live response is tells (asks.WriteAfter number tries) e answered = write_shown live response number (Some tries) tries is
+  handled_shown live response is tells asks.PrmEnd e answered = end_shown live response 0 is
+  handled_shown live response is tells (asks.PrmEndAfter tries) e answered = end_shown live response tries is
   handled_shown live response is tells (asks.Release sequence) e answered = forgets_shown live is
 
   beside_shown : (live : Live) (response : Response) → IsShown Clear setup alarms live → (o : Option PlugRequest) → Shown (beside setup live response o)
@@ -427,6 +488,8 @@ module _ (Clear : Type 0) (setup : Setup) (alarms : List AlarmNotification) wher
   refused_by_shown live refusal is asks.Connect = denied_shown refusal.status live
   refused_by_shown live refusal is (asks.Write number) = denied_shown refusal.status live
   refused_by_shown live refusal is asks.PrmEnd = denied_shown refusal.status live
+  refused_by_shown live refusal is (asks.WriteAfter number tries) = denied_shown refusal.status live
+  refused_by_shown live refusal is (asks.PrmEndAfter tries) = denied_shown refusal.status live
   refused_by_shown live refusal is (asks.Release sequence) = forgets_shown live is
 
   refused_shown : (live : Live) (refusal : Refusal) → IsShown Clear setup alarms live → (o : Option Request) → Shown (refused setup live refusal o)

@@ -407,6 +407,10 @@ module _ (so : FramesSo) (setup : Setup) (identity : Identity) (good : IsSetup s
       call_mine _ _ (says_call to (call_for setup (asks.Write number)) aimed.0 (so.heard.call_can setup (asks.Write number) good tt aimed.1))
   said_mine (said.Requests to asks.PrmEnd) aimed =
       call_mine _ _ (says_call to (call_for setup asks.PrmEnd) aimed.0 (so.heard.call_can setup asks.PrmEnd good tt tt))
+  said_mine (said.Requests to (asks.WriteAfter number tries)) aimed =
+      call_mine _ _ (says_call to (call_for setup (asks.WriteAfter number tries)) aimed.0 (so.heard.call_can setup (asks.WriteAfter number tries) good tt aimed.1))
+  said_mine (said.Requests to (asks.PrmEndAfter tries)) aimed =
+      call_mine _ _ (says_call to (call_for setup (asks.PrmEndAfter tries)) aimed.0 (so.heard.call_can setup (asks.PrmEndAfter tries) good tt aimed.1))
   said_mine (said.Requests to (asks.Release sequence)) aimed =
       call_mine _ _ (says_call to (call_for setup (asks.Release sequence)) aimed.0 (so.heard.call_can setup (asks.Release sequence) good tt aimed.1))
   said_mine (said.Accesses to request octets) aimed =
@@ -485,6 +489,13 @@ module _ (so : FramesSo) (setup : Setup) (identity : Identity) (good : IsSetup s
       let read = read_end _ (call_for setup asks.PrmEnd) (blocks_of setup asks.PrmEnd) number refl
       (says_call to (call_for setup asks.PrmEnd) aimed.0 (so.heard.call_can setup asks.PrmEnd good tt tt)) hears in
       absurd (start_end (sym (end_type _) ∙ type_read 0x0111 (blocks_of setup asks.PrmEnd) read.x read.is))
+  said_end (said.Requests to (asks.WriteAfter which tries)) number aimed small hears =
+      absurd (other_end _ _ number (says_call to (call_for setup (asks.WriteAfter which tries)) aimed.0
+      (so.heard.call_can setup (asks.WriteAfter which tries) good tt aimed.1)) no_write hears)
+  said_end (said.Requests to (asks.PrmEndAfter tries)) number aimed small hears =
+      let read = read_end _ (call_for setup (asks.PrmEndAfter tries)) (blocks_of setup (asks.PrmEndAfter tries)) number refl
+      (says_call to (call_for setup (asks.PrmEndAfter tries)) aimed.0 (so.heard.call_can setup (asks.PrmEndAfter tries) good tt aimed.1)) hears in
+      absurd (start_end (sym (end_type _) ∙ type_read 0x0111 (blocks_of setup (asks.PrmEndAfter tries)) read.x read.is))
   said_end (said.Requests to (asks.Release sequence)) number aimed small hears =
       absurd (other_end _ _ number (says_call to (call_for setup (asks.Release sequence)) aimed.0 (so.heard.call_can setup (asks.Release sequence) good tt aimed.1))
       no_release hears)
@@ -526,6 +537,12 @@ module _ (so : FramesSo) (setup : Setup) (identity : Identity) (good : IsSetup s
       absurd (call_done _ _ number (says_call to (call_for setup (asks.Write which)) aimed.0 (so.heard.call_can setup (asks.Write which) good tt aimed.1)) hears)
   said_done (said.Requests to asks.PrmEnd) number aimed hears =
       absurd (call_done _ _ number (says_call to (call_for setup asks.PrmEnd) aimed.0 (so.heard.call_can setup asks.PrmEnd good tt tt)) hears)
+  said_done (said.Requests to (asks.WriteAfter which tries)) number aimed hears =
+      absurd (call_done _ _ number (says_call to (call_for setup (asks.WriteAfter which tries)) aimed.0
+      (so.heard.call_can setup (asks.WriteAfter which tries) good tt aimed.1)) hears)
+  said_done (said.Requests to (asks.PrmEndAfter tries)) number aimed hears =
+      absurd (call_done _ _ number (says_call to (call_for setup (asks.PrmEndAfter tries)) aimed.0
+      (so.heard.call_can setup (asks.PrmEndAfter tries) good tt aimed.1)) hears)
   said_done (said.Requests to (asks.Release sequence)) number aimed hears =
       absurd (call_done _ _ number (says_call to (call_for setup (asks.Release sequence)) aimed.0 (so.heard.call_can setup (asks.Release sequence) good tt aimed.1)) hears)
   said_done (said.Accesses to request octets) number aimed hears =

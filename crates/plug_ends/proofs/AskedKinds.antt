@@ -26,6 +26,7 @@ use Rattle.controller_core.specs.stored.Alarms.{ack_of, kept_alarm}
 use Rattle.controller_core.specs.stored.State.{Live, phase_for}
 use Rattle.controller_core.specs.Machine.{Turn, acking, after_turn, asks_next, behind_ack, behind_data, can_begin, end_of, flow_later, is_end_of}
 use Rattle.controller_core.specs.Machine.{keeping, plug_readied, stays, taken, turn_of, with_end}
+use Rattle.controller_core.specs.start_up.Requests.{behind_write, end_after, write_after}
 use Rattle.end_laws.specs.controller.Small.{IsInStep, IsSteady, MayWait}
 use Rattle.end_laws.specs.turns.Beside.{IsBegun, MayBegin, MayFollow, flow_begun}
 use Rattle.end_laws.specs.turns.Turns as kinds
@@ -104,18 +105,29 @@ identify_connect e = absurd cc
 address_connect : asks.Connect ≡ asks.Address → ⊥
 address_connect e = absurd cc
 
-write_connect : (number : ℕ) → asks.Connect ≡ asks.Write number → ⊥
-write_connect number e = absurd cc
+write_connect : (number : ℕ) (tries : Option ℕ) → asks.Connect ≡ write_after number tries → ⊥
+write_connect number None e = absurd cc
+write_connect number (Some tries) e = absurd cc
 
-end_connect : asks.Connect ≡ asks.PrmEnd → ⊥
-end_connect e = absurd cc
+end_connect : (tries : Option ℕ) → asks.Connect ≡ end_after tries → ⊥
+end_connect None e = absurd cc
+end_connect (Some tries) e = absurd cc
+
+-- neither a Write nor PrmEnd nor one that is tried again is a Release
+write_going : (number : ℕ) (tries : Option ℕ) → IsRelease (write_after number tries) → ⊥
+write_going number None release = release
+write_going number (Some tries) release = release
+
+end_going : (tries : Option ℕ) → IsRelease (end_after tries) → ⊥
+end_going None release = release
+end_going (Some tries) release = release
 
 connect_in : (plan : Parts) (phase : State) → IsInStep plan phase (Some asks.Connect) → IsBefore phase
 connect_in plan Looking is = tt
 connect_in plan Addressing is = tt
 connect_in plan Connecting is = tt
-connect_in plan Writing is = absurd (write_connect is.0 (request_is asks.Connect (asks.Write is.0) is.2))
-connect_in plan Ending is = absurd (end_connect (request_is asks.Connect asks.PrmEnd is))
+connect_in plan Writing is = absurd (write_connect is.0 is.1 (request_is asks.Connect (write_after is.0 is.1) is.3))
+connect_in plan Ending is = absurd (end_connect is.0 (request_is asks.Connect (end_after is.0) is.1))
 connect_in plan Waiting is = absurd (none_request asks.Connect is)
 connect_in plan Exchanging is = absurd (none_request asks.Connect is)
 connect_in plan (Ended cause) (inl none) = absurd (none_request asks.Connect none)
@@ -223,6 +235,14 @@ module _ (setup : Setup) (live : Live) where
   next_phase true number b = b
   next_phase false number b = b
 
+  after_phase : (b : Bool) (number tries : ℕ) → IsBefore (phase_for (cond b (asks.WriteAfter number tries) (asks.PrmEndAfter tries))) → ⊥
+  after_phase true number tries b = b
+  after_phase false number tries b = b
+
+  behind_phase : (plan : Parts) (number : ℕ) (tries : Option ℕ) → IsBefore (phase_for (behind_write plan number tries)) → ⊥
+  behind_phase plan number None b = next_phase (nat_lt (number + 1) (write_count plan)) (number + 1) b
+  behind_phase plan number (Some tries) b = after_phase (nat_lt (number + 1) (write_count plan)) (number + 1) tries b
+
   end_same : (before : Live) (priority : Priority) (end : ControllerEnd)
       → ((with_end before priority end).phase ≡ before.phase) × ((with_end before priority end).stands ≡ before.stands)
       × ((with_end before priority end).access ≡ before.access)
@@ -294,14 +314,15 @@ module _ (setup : Setup) (live : Live) where
     kind_goes came (kinds.Relates places chosen) holds =
         starts_goes _ (asked_starts setup.plan live asks.Connect steady holds.0.stood (λ release. release))
         (λ b. absurd (next_phase (nat_lt 0 (write_count setup.plan)) 0 b)) (λ b. absurd (next_phase (nat_lt 0 (write_count setup.plan)) 0 b)) refl
-    kind_goes came (kinds.Writes number) holds =
-        starts_goes _ (asked_starts setup.plan live (asks.Write number) steady holds.0.stood (λ release. release))
-        (λ b. absurd (next_phase (nat_lt (number + 1) (write_count setup.plan)) (number + 1) b)) (λ b. inl refl) refl
-    kind_goes came (kinds.Skips number refused status) holds =
-        starts_goes _ (asked_starts setup.plan live (asks.Write number) steady holds.stood (λ release. release))
-        (λ b. absurd (next_phase (nat_lt (number + 1) (write_count setup.plan)) (number + 1) b)) (λ b. inl refl) refl
-    kind_goes came kinds.Waits holds =
-        starts_goes _ (asked_starts setup.plan live asks.PrmEnd steady holds.stood (λ release. release)) (λ b. absurd b) (λ b. inl refl) refl
+    kind_goes came (kinds.Writes number tries) holds =
+        starts_goes _ (asked_starts setup.plan live (write_after number tries) steady holds.0.stood (write_going number tries))
+        (λ b. absurd (behind_phase setup.plan number tries b)) (λ b. inl refl) refl
+    kind_goes came (kinds.Skips number tries refused status) holds =
+        starts_goes _ (asked_starts setup.plan live (write_after number tries) steady holds.stood (write_going number tries))
+        (λ b. absurd (behind_phase setup.plan number tries b)) (λ b. inl refl) refl
+    kind_goes came (kinds.Tries next status) holds = keeps _ refl refl refl
+    kind_goes came (kinds.Waits tries) holds =
+        starts_goes _ (asked_starts setup.plan live (end_after tries) steady holds.stood (end_going tries)) (λ b. absurd b) (λ b. inl refl) refl
     kind_goes came kinds.Forgets holds = keeps _ refl refl refl
     kind_goes came (kinds.Begins caller call block) holds = starts_goes _ (readied_starts holds.0) (λ b. absurd b) (λ b. inl refl) refl
     kind_goes came (kinds.Repeats caller call block) holds = keeps live refl refl refl

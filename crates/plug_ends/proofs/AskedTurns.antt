@@ -51,7 +51,7 @@ use Rattle.controller_messages.specs.Access.{Accessing, call_number, is_rejected
 use Rattle.controller_messages.specs.Heard.{Heard, Nothing, Answers, Responds, Refuses, Calls, Cyclic, Alarms}
 use Rattle.controller_messages.specs.PlugRequests.{is_plug_answer, is_plug_ready, plug_answer, plug_ready_in}
 use Rattle.controller_messages.specs.RecordRequests.{most_record_octets}
-use Rattle.controller_messages.specs.Requests.{first_of, writing_from}
+use Rattle.controller_messages.specs.Requests.{first_of, writing_from, writing_after}
 use Rattle.controller_messages.specs.Sent.{Sent, Requests, Parametrizes, Agrees, ready_answer}
 use Rattle.controller_core.specs.declared.start_up.outcomes.Outcomes.{Outcomes}
 use Rattle.controller_core.specs.declared.start_up.outcomes.Outcomes.TheVariants.{AllWritten, Unreadable}
@@ -63,12 +63,12 @@ use Rattle.controller_core.specs.declared.stored.state.Cause.TheVariants as why
 use Rattle.controller_core.specs.declared.stored.state.RefusedRecord.{RefusedRecord}
 use Rattle.controller_core.specs.declared.stored.state.State.{State}
 use Rattle.controller_core.specs.declared.stored.state.State.TheVariants.{Looking, Addressing, Connecting, Writing, Ending, Waiting, Exchanging, Ended}
-use Rattle.controller_core.specs.start_up.Answers.{is_addressed, is_answer, is_found, is_held, is_ready, is_refused, is_right, is_set_answer, ready_in}
+use Rattle.controller_core.specs.start_up.Answers.{is_addressed, is_answer, is_found, is_held, is_ready, is_refused, is_right, is_set_answer, ready_in, is_tried}
 use Rattle.controller_core.specs.start_up.Outcomes.{outcomes_of}
 use Rattle.controller_core.specs.stored.Alarms.{is_alarm}
 use Rattle.controller_core.specs.stored.Cause.{cause_of}
 use Rattle.controller_core.specs.stored.State.{Live}
-use Rattle.controller_core.specs.Machine.{Turn, accesses_by, accesses_of, acked_under, acks_in, acks_of, after_turn, after_write, alarmed, answered}
+use Rattle.controller_core.specs.Machine.{Turn, accesses_by, accesses_of, acked_under, acks_in, acks_of, after_turn, after_write, alarmed, answered, refused_end, refused_write}
 use Rattle.controller_core.specs.Machine.{asks_next, behind_ack, behind_data, beside, brings, brought, called, can_begin, can_request, come, connected}
 use Rattle.controller_core.specs.Machine.{decided, done, due_frames, end_of, exchange_later, flowed, gone_on, granted, is_again, is_end_of, is_exchanging}
 use Rattle.controller_core.specs.Machine.{is_plug_awaited, is_spent, later, noted, noticed, outputs_of, over, past_record, pending_by, pending_of, placed}
@@ -253,27 +253,40 @@ module _ (setup : Setup) (live : Live) (alarms : List AlarmNotification) (Fine :
       either (is_whole found) (either found.differs (releases why.ModuleDiff live refl) (related_goes blocks (chosen_of found) e)) rests
   connected_goes blocks None e = rests
 
-  passed_goes : (number refused_number : ℕ) (status : Code) → Goes alarms (past_record setup number (noted status refused_number live))
-  passed_goes number refused_number status =
+  passed_goes : (next : Request) (refused_number : ℕ) (status : Code) → Goes alarms (past_record setup next (noted status refused_number live))
+  passed_goes next refused_number status =
       either setup.plan.continue_on_refused_record (keeps _ refl (tt, tt))
       (either setup.plan.release_on_refused_record (releases why.Refused (noted status refused_number live) refl)
       (ends why.Refused (noted status refused_number live) [] refl tt))
 
-  outcomes_go : (number : ℕ) (outcomes : Outcomes) → Goes alarms (after_write setup live number outcomes)
-  outcomes_go number AllWritten = keeps _ refl (tt, tt)
-  outcomes_go number (Denied place status) = passed_goes number (first_of setup.plan number + place) status
-  outcomes_go number Unreadable = rests
+  outcomes_go : (number : ℕ) (next : Request) (outcomes : Outcomes) → Goes alarms (after_write setup live number next outcomes)
+  outcomes_go number next AllWritten = keeps _ refl (tt, tt)
+  outcomes_go number next (Denied place status) = passed_goes next (first_of setup.plan number + place) status
+  outcomes_go number next Unreadable = rests
 
   done_goes : (blocks : List ℕ) (request : Request) → live.asked ≡ Some request → Goes alarms (done setup live blocks request)
   done_goes blocks asks.Identify e = rests
   done_goes blocks asks.Address e = rests
   done_goes blocks asks.Connect e = connected_goes blocks (found_in 400 blocks nothing) e
-  done_goes blocks (asks.Write number) e = outcomes_go number (outcomes_of setup.plan number blocks)
+  done_goes blocks (asks.Write number) e = outcomes_go number (writing_from setup.plan (number + 1)) (outcomes_of setup.plan number blocks)
+  done_goes blocks (asks.WriteAfter number tries) e = outcomes_go number (writing_after setup.plan (number + 1) tries) (outcomes_of setup.plan number blocks)
   done_goes blocks asks.PrmEnd e = keeps _ refl tt
+  done_goes blocks (asks.PrmEndAfter tries) e = keeps _ refl tt
   done_goes blocks (asks.Release sequence) e = keeps _ refl tt
 
+  refused_write_goes : (status : Code) (number tries : ℕ) (next : Request) → Goes alarms (refused_write setup live status number tries next)
+  refused_write_goes status number tries next =
+      either (is_tried setup.plan status tries) (keeps _ refl tt) (passed_goes next (first_of setup.plan number) status)
+
+  refused_end_goes : (status : Code) (tries : ℕ) → Goes alarms (refused_end setup live status tries)
+  refused_end_goes status tries =
+      either (is_tried setup.plan status tries) (keeps _ refl tt) (ends why.Refused (record live { refusal = Some status }) [] refl tt)
+
   undone_goes : (status : Code) (request : Request) → Goes alarms (undone setup live status request)
-  undone_goes status (asks.Write number) = passed_goes number (first_of setup.plan number) status
+  undone_goes status (asks.Write number) = refused_write_goes status number 0 (writing_from setup.plan (number + 1))
+  undone_goes status (asks.WriteAfter number tries) = refused_write_goes status number tries (writing_after setup.plan (number + 1) tries)
+  undone_goes status asks.PrmEnd = refused_end_goes status 0
+  undone_goes status (asks.PrmEndAfter tries) = refused_end_goes status tries
   undone_goes status asks.Connect =
       let next : Live = record live { refusal = Some status } in either (is_held setup.plan status) (releases why.Refused next refl) (ends why.Refused next [] refl tt)
   undone_goes status request = ends why.Refused (record live { refusal = Some status }) [] refl tt

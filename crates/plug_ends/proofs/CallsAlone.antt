@@ -79,9 +79,10 @@ module _ (setup : Setup) (follows : (could : Bool) (turn : Turn) → MayFollow s
   kind_alone live came (kinds.Ends cause refusal refused units) holds alone = inl refl
   kind_alone live came (kinds.Releases cause refusal refused units) holds alone = inl refl
   kind_alone live came (kinds.Relates places chosen) holds alone = alone
-  kind_alone live came (kinds.Writes number) holds alone = alone
-  kind_alone live came (kinds.Skips number refused status) holds alone = alone
-  kind_alone live came kinds.Waits holds alone = alone
+  kind_alone live came (kinds.Writes number tries) holds alone = alone
+  kind_alone live came (kinds.Skips number tries refused status) holds alone = alone
+  kind_alone live came (kinds.Tries next status) holds alone = alone
+  kind_alone live came (kinds.Waits tries) holds alone = alone
   kind_alone live came kinds.Forgets holds alone = alone
   kind_alone live came (kinds.Begins caller call block) holds alone = alone
   kind_alone live came (kinds.Repeats caller call block) holds alone = alone

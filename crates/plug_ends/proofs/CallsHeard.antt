@@ -354,6 +354,10 @@ module _ (so : HeardSo) (setup : Setup) (identity : Identity) (good : IsSetup se
   said_fine (said.Requests to (asks.Write number)) aimed = call_fine to (call_for setup (asks.Write number)) aimed.0
       (so.call_can setup (asks.Write number) good tt aimed.1)
   said_fine (said.Requests to asks.PrmEnd) aimed = call_fine to (call_for setup asks.PrmEnd) aimed.0 (so.call_can setup asks.PrmEnd good tt tt)
+  said_fine (said.Requests to (asks.WriteAfter number tries)) aimed = call_fine to (call_for setup (asks.WriteAfter number tries)) aimed.0
+      (so.call_can setup (asks.WriteAfter number tries) good tt aimed.1)
+  said_fine (said.Requests to (asks.PrmEndAfter tries)) aimed = call_fine to (call_for setup (asks.PrmEndAfter tries)) aimed.0
+      (so.call_can setup (asks.PrmEndAfter tries) good tt aimed.1)
   said_fine (said.Requests to (asks.Release sequence)) aimed = call_fine to (call_for setup (asks.Release sequence)) aimed.0
       (so.call_can setup (asks.Release sequence) good tt aimed.1)
   said_fine (said.Accesses to request octets) aimed = call_fine to (record_call setup request octets) aimed.0 (so.record_can setup request octets good aimed.1)

@@ -135,6 +135,8 @@ module _ (setup : Setup) where
   number_said (Requests to asks.Connect) sequence ask e = call_number_same _ _ _ _ (sym e)
   number_said (Requests to (asks.Write number)) sequence ask e = call_number_same _ _ _ _ (sym e)
   number_said (Requests to asks.PrmEnd) sequence ask e = call_number_same _ _ _ _ (sym e)
+  number_said (Requests to (asks.WriteAfter number tries)) sequence ask e = call_number_same _ _ _ _ (sym e)
+  number_said (Requests to (asks.PrmEndAfter tries)) sequence ask e = call_number_same _ _ _ _ (sym e)
   number_said (Requests to (asks.Release number)) sequence ask e = call_number_same _ _ _ _ (sym e)
   number_said (Accesses to request octets) sequence ask e = asked_number (is_planned setup) request.sequence _ _ sequence ask e
   number_said (Parametrizes to request) sequence ask e = asked_number (is_planned setup) request.sequence _ _ sequence ask e
@@ -161,6 +163,8 @@ module _ (setup : Setup) where
   uncounted_said (Requests to asks.Connect) is sequence ask e = absurd is
   uncounted_said (Requests to (asks.Write number)) is sequence ask e = absurd is
   uncounted_said (Requests to asks.PrmEnd) is sequence ask e = call_ask_same _ _ _ _ (sym e)
+  uncounted_said (Requests to (asks.WriteAfter number tries)) is sequence ask e = absurd is
+  uncounted_said (Requests to (asks.PrmEndAfter tries)) is sequence ask e = call_ask_same _ _ _ _ (sym e)
   uncounted_said (Requests to (asks.Release number)) is sequence ask e = absurd is
   uncounted_said (Parametrizes to request) is sequence ask e = ends_said request request.step is sequence ask e
   uncounted_said (Accesses to request octets) is sequence ask e = absurd is

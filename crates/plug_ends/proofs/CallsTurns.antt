@@ -107,6 +107,7 @@ abbrev pub IsUncounted : Sent → Type 0
 IsUncounted (Requests device asks.Identify) = Unit {0}
 IsUncounted (Requests device asks.Address) = Unit {0}
 IsUncounted (Requests device asks.PrmEnd) = Unit {0}
+IsUncounted (Requests device (asks.PrmEndAfter tries)) = Unit {0}
 IsUncounted (Parametrizes device request) = request.step ≡ PrmEnd
 IsUncounted message = ⊥
 

@@ -58,7 +58,7 @@ use Rattle.controller_messages.specs.Heard.{Heard, Nothing, Answers, Responds, R
 use Rattle.controller_messages.specs.Heard.{Cyclic as Comes}
 use Rattle.controller_messages.specs.PlugRequests.{is_plug_answer, is_plug_ready, plug_ready_in}
 use Rattle.controller_messages.specs.RecordRequests.{most_record_octets}
-use Rattle.controller_messages.specs.Requests.{first_of, writing_from}
+use Rattle.controller_messages.specs.Requests.{first_of, writing_from, writing_after}
 use Rattle.controller_messages.specs.Sent.{Sent}
 use Rattle.controller_core.specs.declared.start_up.outcomes.Outcomes.{Outcomes}
 use Rattle.controller_core.specs.declared.start_up.outcomes.Outcomes.TheVariants.{AllWritten, Unreadable}
@@ -69,12 +69,12 @@ use Rattle.controller_core.specs.declared.stored.state.Cause.{Cause}
 use Rattle.controller_core.specs.declared.stored.state.Cause.TheVariants as why
 use Rattle.controller_core.specs.declared.stored.state.State.{State}
 use Rattle.controller_core.specs.declared.stored.state.State.TheVariants.{Looking, Addressing, Connecting, Writing, Ending, Waiting, Exchanging, Ended}
-use Rattle.controller_core.specs.start_up.Answers.{is_addressed, is_answer, is_found, is_held, is_ready, is_refused, is_right, is_set_answer, ready_in}
+use Rattle.controller_core.specs.start_up.Answers.{is_addressed, is_answer, is_found, is_held, is_ready, is_refused, is_right, is_set_answer, ready_in, is_tried}
 use Rattle.controller_core.specs.start_up.Outcomes.{outcomes_of}
 use Rattle.controller_core.specs.stored.Alarms.{ack_of, is_alarm, kept_alarm}
 use Rattle.controller_core.specs.stored.Cause.{cause_of}
 use Rattle.controller_core.specs.stored.State.{Live}
-use Rattle.controller_core.specs.Machine.{Turn, acked_under, acking, diagnosing, confirming, plug_readied, state_of_step, after_turn, after_write, alarmed, answered, begun_by, begun_turn, behind_data, beside, brings, brought, called, can_begin, can_request, come, connected, decided, done, end_of, exchange_later, failed, flowed, gone_on, granted, is_again, is_end_of, is_plug_awaited, is_spent, keeping, asks_next, later, noted, noticed, over, past_record, placed, plug_asked, plug_called, plug_finished, plug_passed, plug_passed_by, plug_refused, plug_rejected, plug_replied, plug_responded, plugs_of, quit, readied, refused, refused_beside, refused_by, refused_place, rejected, related_by, released, replied, requested, requests_of, responded, standing, stays, step_from, taken, ticked, turn_due, turn_of, turned, undone, where_due, with_end, writing}
+use Rattle.controller_core.specs.Machine.{Turn, acked_under, acking, diagnosing, confirming, plug_readied, state_of_step, after_turn, after_write, alarmed, answered, begun_by, begun_turn, behind_data, beside, brings, brought, called, can_begin, can_request, come, connected, decided, done, end_of, exchange_later, failed, flowed, gone_on, granted, is_again, is_end_of, is_plug_awaited, is_spent, keeping, asks_next, later, noted, noticed, over, past_record, placed, plug_asked, plug_called, plug_finished, plug_passed, plug_passed_by, plug_refused, plug_rejected, plug_replied, plug_responded, plugs_of, quit, readied, refused, refused_beside, refused_by, refused_place, rejected, related_by, released, replied, requested, requests_of, responded, standing, stays, step_from, taken, ticked, turn_due, turn_of, turned, undone, where_due, with_end, writing, refused_end, refused_write, trying}
 use Rattle.plug_law.specs.Plugged.{accepted_by, accepted_in, accepted_with}
 
 -- ---- places
@@ -291,26 +291,37 @@ module _ (Was : ℕ → ℕ → ℕ → Type 0) where
     connected_goes blocks (Some found) = either (is_whole found) (either found.differs (releases why.ModuleDiff live) (related_goes blocks (chosen_of found))) rests
     connected_goes blocks None = rests
 
-    passed_goes : (number refused_number : ℕ) (status : Code) → Goes (past_record setup number (noted status refused_number live))
-    passed_goes number refused_number status =
+    passed_goes : (next : Request) (refused_number : ℕ) (status : Code) → Goes (past_record setup next (noted status refused_number live))
+    passed_goes next refused_number status =
         either setup.plan.continue_on_refused_record (keeps _ k)
         (either setup.plan.release_on_refused_record (releases why.Refused (noted status refused_number live)) (ends why.Refused (noted status refused_number live) []))
 
-    outcomes_go : (number : ℕ) (outcomes : Outcomes) → Goes (after_write setup live number outcomes)
-    outcomes_go number AllWritten = keeps _ k
-    outcomes_go number (Denied place status) = passed_goes number (first_of setup.plan number + place) status
-    outcomes_go number Unreadable = rests
+    outcomes_go : (number : ℕ) (next : Request) (outcomes : Outcomes) → Goes (after_write setup live number next outcomes)
+    outcomes_go number next AllWritten = keeps _ k
+    outcomes_go number next (Denied place status) = passed_goes next (first_of setup.plan number + place) status
+    outcomes_go number next Unreadable = rests
 
     done_goes : (blocks : List ℕ) (request : Request) → Goes (done setup live blocks request)
     done_goes blocks asks.Identify = rests
     done_goes blocks asks.Address = rests
     done_goes blocks asks.Connect = connected_goes blocks (found_in 400 blocks nothing)
-    done_goes blocks (asks.Write number) = outcomes_go number (outcomes_of setup.plan number blocks)
+    done_goes blocks (asks.Write number) = outcomes_go number (writing_from setup.plan (number + 1)) (outcomes_of setup.plan number blocks)
+    done_goes blocks (asks.WriteAfter number tries) = outcomes_go number (writing_after setup.plan (number + 1) tries) (outcomes_of setup.plan number blocks)
     done_goes blocks asks.PrmEnd = keeps _ k
+    done_goes blocks (asks.PrmEndAfter tries) = keeps _ k
     done_goes blocks (asks.Release sequence) = keeps _ k
 
+    refused_write_goes : (status : Code) (number tries : ℕ) (next : Request) → Goes (refused_write setup live status number tries next)
+    refused_write_goes status number tries next = either (is_tried setup.plan status tries) (keeps _ k) (passed_goes next (first_of setup.plan number) status)
+
+    refused_end_goes : (status : Code) (tries : ℕ) → Goes (refused_end setup live status tries)
+    refused_end_goes status tries = either (is_tried setup.plan status tries) (keeps _ k) (ends why.Refused (record live { refusal = Some status }) [])
+
     undone_goes : (status : Code) (request : Request) → Goes (undone setup live status request)
-    undone_goes status (asks.Write number) = passed_goes number (first_of setup.plan number) status
+    undone_goes status (asks.Write number) = refused_write_goes status number 0 (writing_from setup.plan (number + 1))
+    undone_goes status (asks.WriteAfter number tries) = refused_write_goes status number tries (writing_after setup.plan (number + 1) tries)
+    undone_goes status asks.PrmEnd = refused_end_goes status 0
+    undone_goes status (asks.PrmEndAfter tries) = refused_end_goes status tries
     undone_goes status asks.Connect =
         let next : Live = record live { refusal = Some status } in either (is_held setup.plan status) (releases why.Refused next) (ends why.Refused next [])
     undone_goes status request = ends why.Refused (record live { refusal = Some status }) []

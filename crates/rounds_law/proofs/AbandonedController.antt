@@ -32,9 +32,9 @@ use Rattle.controller_core.specs.declared.stored.state.State.{State as Phases}
 use Rattle.controller_core.specs.declared.stored.state.State.TheVariants.{Connecting}
 use Rattle.controller_core.specs.declared.stored.event.Event.TheVariants.{Frame, Tick}
 use Rattle.controller_core.specs.stored.State.{Controlling, Live, is_limited, left_in, phase_for}
-use Rattle.controller_core.specs.start_up.Answers.{is_answer, is_held, is_state_conflict}
+use Rattle.controller_core.specs.start_up.Answers.{is_answer, is_held, is_state_conflict, is_busy, is_tried}
 use Rattle.controller_core.specs.start_up.Requests.{next_sequence}
-use Rattle.controller_core.specs.Machine.{Stepped, Turn, accesses_by, accesses_of, after_turn, brought, can_begin, decided, denied, done as done_turn, exchange_later}
+use Rattle.controller_core.specs.Machine.{Stepped, Turn, accesses_by, accesses_of, after_turn, brought, can_begin, decided, denied, done as done_turn, exchange_later, trying}
 use Rattle.controller_core.specs.Machine.{flow_later, flowed, gone_on, is_again, is_exchanging, later, noted, outputs_of, over, past_record, pending_by}
 use Rattle.controller_core.specs.Machine.{plugs_by}
 use Rattle.controller_core.specs.Machine.{quit, refused_connect, refused_record, released, requests_of, responded, stays, step_of, stepped, ticked, turn_due, turn_of, turned}
@@ -47,7 +47,7 @@ use Rattle.rounds_law.specs.Again.{HasEnded, IsDenial}
 use Rattle.rounds_law.specs.Abandoned.{Awaited, EndsFor, IsInPlan, Expects, IsReleasing, Readiness, Releases, Response, StillExpects, WritesNext, asked_for}
 use Rattle.rounds_law.specs.Abandoned.{last_call, phase_at, repeated}
 use Rattle.rounds_law.specs.Repeating.{completes, counts_on}
-use Rattle.rounds_law.proofs.Choices.{both_true, where_not, where_so}
+use Rattle.rounds_law.proofs.Choices.{both_true, where_not, where_so, and_false}
 use Rattle.rounds_law.proofs.ControllerCallingAsks.{count_few, step_by, step_is}
 use Rattle.rounds_law.proofs.ControllerCallingResponses.{is_its_answer, is_reported, unexchanging}
 use Rattle.rounds_law.proofs.ControllerPassingParts.{unbegun_heard}
@@ -246,7 +246,7 @@ module _ (setup : Setup) (identity : Identity) (good : IsSetup setup) (device : 
       → Expects setup serial identity.mac (Response number) controller
       → controller.live.asked ≡ Some (asks.Write number) → controller.live.phase ≡ phase_for (asks.Write number)
       → (goes_on releases : Bool) → setup.plan.continue_on_refused_record ≡ goes_on → setup.plan.release_on_refused_record ≡ releases
-      → After serial number controller (step_by setup (past_record setup number (noted status place controller.live)))
+      → After serial number controller (step_by setup (past_record setup (writing_from setup.plan (number + 1)) (noted status place controller.live)))
   write_denied serial number place status controller below it asked phase true releases e f =
       let live = controller.live in
       let next = writing setup (writing_from setup.plan (number + 1)) (noted status place live) in
@@ -274,7 +274,7 @@ module _ (setup : Setup) (identity : Identity) (good : IsSetup setup) (device : 
       subst (λ (t : Turn). After serial number controller (step_by setup t)) (sym turn) (inr (inl (refl, ends_by setup Refused live)))
 
   -- After it no turn of a place can begin.
-  denied_none : (number : ℕ) (live : Live) → can_begin (past_record setup number live).live ≡ false
+  denied_none : (number : ℕ) (live : Live) → can_begin (past_record setup (writing_from setup.plan (number + 1)) live).live ≡ false
   denied_none number live = by_plan setup.plan.continue_on_refused_record setup.plan.release_on_refused_record
     where
       by_plan : (goes_on releases : Bool)
@@ -284,6 +284,11 @@ module _ (setup : Setup) (identity : Identity) (good : IsSetup setup) (device : 
           elsewhere (writing setup (writing_from setup.plan (number + 1)) live).live (unexchanging (writing_from setup.plan (number + 1)))
       by_plan false true = refl
       by_plan false false = refl
+
+  -- A response that does not say that the device is busy is not followed by another try.
+  untried : (status : Status) (tries : ℕ) → is_busy status ≡ false → is_tried setup.plan status tries ≡ false
+  untried status tries ready =
+      ap (λ (b : Bool). setup.plan.persistent_start && (b && nat_lt tries 65535)) ready ∙ and_false setup.plan.persistent_start
 
   pub denied_heard : (serial : ℕ) (controller : Controlling) (number : ℕ) (octets : List ℕ) → number ≤ write_count setup.plan
       → Expects setup serial identity.mac (Response number) controller
@@ -298,13 +303,15 @@ module _ (setup : Setup) (identity : Identity) (good : IsSetup setup) (device : 
           let asked = it.asked ∙ ap (λ (r : Request). Some r) whole in
           let response = answer_to (call_for setup (asks.Write number)) denial.status [] in
           let place = first_of setup.plan number in
-          let turn = response_turn (asks.Write number) controller.live octets denial asked (is_its_answer setup (number + 1))
-          (undone setup controller.live denial.status (asks.Write number))
+          let ends = past_record setup (writing_from setup.plan (number + 1)) (noted denial.status place controller.live) in
+          let turn = response_turn (asks.Write number) controller.live octets denial asked (is_its_answer setup (number + 1)) ends
           (where_not (is_done denial.status) (done_turn setup controller.live response.blocks (asks.Write number))
-          (undone setup controller.live denial.status (asks.Write number)) denial.negative)
+          (undone setup controller.live denial.status (asks.Write number)) denial.negative
+          ∙ where_not (is_tried setup.plan denial.status 0) (trying (asks.WriteAfter number 1) denial.status controller.live) ends
+          (untried denial.status 0 denial.ready))
           (denied_none number (noted denial.status place controller.live)) in
           subst (λ (s : Stepped). After serial number controller s)
-          (sym (step_is setup controller octets (undone setup controller.live denial.status (asks.Write number)) it.of_setup turn))
+          (sym (step_is setup controller octets ends it.of_setup turn))
           (write_denied serial number place denial.status controller is.0 it asked (it.in_phase ∙ ap phase_for whole)
           setup.plan.continue_on_refused_record setup.plan.release_on_refused_record refl refl)
       by_request request same (inr is) =
@@ -312,13 +319,15 @@ module _ (setup : Setup) (identity : Identity) (good : IsSetup setup) (device : 
           let denial : IsDenial setup identity asks.PrmEnd octets = subst (λ (r : Request). IsDenial setup identity r octets) whole denial in
           let asked = it.asked ∙ ap (λ (r : Request). Some r) whole in
           let response = answer_to (call_for setup asks.PrmEnd) denial.status [] in
-          let turn = response_turn asks.PrmEnd controller.live octets denial asked (is_its_answer setup (write_count setup.plan + 1))
-          (undone setup controller.live denial.status asks.PrmEnd)
+          let ends = stays (denied denial.status controller.live) in
+          let turn = response_turn asks.PrmEnd controller.live octets denial asked (is_its_answer setup (write_count setup.plan + 1)) ends
           (where_not (is_done denial.status) (done_turn setup controller.live response.blocks asks.PrmEnd)
-          (undone setup controller.live denial.status asks.PrmEnd) denial.negative)
+          (undone setup controller.live denial.status asks.PrmEnd) denial.negative
+          ∙ where_not (is_tried setup.plan denial.status 0) (trying (asks.PrmEndAfter 1) denial.status controller.live) ends
+          (untried denial.status 0 denial.ready))
           refl in
           subst (λ (s : Stepped). After serial number controller s)
-          (sym (step_is setup controller octets (undone setup controller.live denial.status asks.PrmEnd) it.of_setup turn))
+          (sym (step_is setup controller octets ends it.of_setup turn))
           (inr (inl (refl, ends_by setup Refused (record controller.live { refusal = Some denial.status }))))
 
   -- ---- a unit

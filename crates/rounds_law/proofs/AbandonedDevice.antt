@@ -62,6 +62,7 @@ use Rattle.rounds_law.proofs.AgainVain.{Keeps}
 use Rattle.rounds_law.proofs.AskedUnits.{unasked_new}
 use Rattle.rounds_law.proofs.DeviceCallingSteps.{kept_first, later_new, step_is}
 use Rattle.rounds_law.proofs.Choices.{where_not}
+use Rattle.rounds_law.proofs.NeverBusy.{never_busy}
 
 -- ---- no relation is named
 
@@ -227,11 +228,23 @@ call_refused setup station live caller (asks.Write number) of none = record {
   stored = refl;
   refused = write_refused station live caller (call_for setup (asks.Write number)) (blocks_of setup (asks.Write number)) none;
 }
+call_refused setup station live caller (asks.WriteAfter number tries) of none = record {
+  operation = Write;
+  operates = refl;
+  stored = refl;
+  refused = write_refused station live caller (call_for setup (asks.WriteAfter number tries)) (blocks_of setup (asks.WriteAfter number tries)) none;
+}
 call_refused setup station live caller asks.PrmEnd of none = record {
   operation = Control;
   operates = refl;
   stored = refl;
   refused = ended_refused station live caller (call_for setup asks.PrmEnd) (blocks_of setup asks.PrmEnd) none;
+}
+call_refused setup station live caller (asks.PrmEndAfter tries) of none = record {
+  operation = Control;
+  operates = refl;
+  stored = refl;
+  refused = ended_refused station live caller (call_for setup (asks.PrmEndAfter tries)) (blocks_of setup (asks.PrmEndAfter tries)) none;
 }
 call_refused setup station live caller (asks.Release sequence) of none = record {
   operation = Release;
@@ -246,7 +259,9 @@ called_of asks.Identify of = absurd of
 called_of asks.Address of = absurd of
 called_of asks.Connect of = absurd of
 called_of (asks.Write number) of = tt
+called_of (asks.WriteAfter number tries) of = tt
 called_of asks.PrmEnd of = tt
+called_of (asks.PrmEndAfter tries) of = tt
 called_of (asks.Release sequence) of = tt
 
 -- ---- the address
@@ -298,6 +313,7 @@ module _ (setup : Setup) (identity : Identity) (outcomes : List Outcome) (statio
         denial = record {
           status = status_of operation refusal.why;
           negative = negative operation refusal.why;
+          ready = never_busy operation refusal.why;
           fits = (subst (λ (messages : List Sent). AreSendable identity messages)
               (ap (λ (step : Stepped). step.sent) stepped ∙ ap (λ (s : Sent). s ∷ []) message) sendable).0.1;
           frame = ap (λ (s : Sent). bytes_of station.identity s) message ∙ ap (λ (i : Identity). bytes_of i here) same;

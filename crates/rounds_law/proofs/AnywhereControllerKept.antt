@@ -19,6 +19,7 @@ use Rattle.cyclic_data.specs.declared.exchange.route.Route.{Route}
 use Rattle.cyclic_data.specs.exchange.Cyclic.{Cyclic}
 use Rattle.cyclic_data.specs.exchange.Units.{cyclic_later}
 use Rattle.plans.specs.declared.parts.Parts.{Parts}
+use Rattle.plans.specs.Plan.{IsPlan}
 use Rattle.controller_messages.specs.declared.request.Request.{Request}
 use Rattle.controller_messages.specs.declared.request.Request.TheVariants as asks
 use Rattle.controller_messages.specs.declared.setup.Setup.{Setup}
@@ -29,6 +30,7 @@ use Rattle.controller_core.specs.stored.Alarms.{ack_of, kept_alarm}
 use Rattle.controller_core.specs.stored.State.{Live, phase_for}
 use Rattle.controller_core.specs.Machine.{acking, behind_ack, behind_data, confirming, end_of, exchange_later, first, flow_later, is_again}
 use Rattle.controller_core.specs.Machine.{keeping, later, over, released, taken, with_end}
+use Rattle.controller_core.specs.start_up.Requests.{end_after, write_after}
 use Rattle.end_laws.specs.sending.Sized.{AreFew, IsShort}
 use Rattle.end_laws.specs.controller.Small.{IsInStep}
 use Rattle.rounds_law.proofs.AnywhereControllerSizes.{next_short, sequence_few}
@@ -94,10 +96,12 @@ IsKept setup live = KeptWith setup live.phase live.device live.asked live.waited
 
 pub stands_for : (request : Request) → true ≡ stands_in (phase_for request)
 stands_for (asks.Write number) = refl
+stands_for (asks.WriteAfter number tries) = refl
 stands_for request = refl
 
 pub runs_for : (request : Request) (begun : Bool) → Runs (phase_for request) begun
 runs_for (asks.Write number) begun = tt
+runs_for (asks.WriteAfter number tries) begun = tt
 runs_for request begun = tt
 
 -- The state of a request that waits.
@@ -108,14 +112,33 @@ PhaseOf asks.Connect phase = phase ≡ Connecting
 PhaseOf (asks.Write number) phase = phase ≡ Writing
 PhaseOf asks.PrmEnd phase = phase ≡ Ending
 PhaseOf (asks.Release sequence) phase = Unit {0}
+PhaseOf (asks.WriteAfter number tries) phase = phase ≡ Writing
+PhaseOf (asks.PrmEndAfter tries) phase = phase ≡ Ending
+
+-- That of a Write, and of PrmEnd.
+write_in : (number : ℕ) (tries : Option ℕ) → PhaseOf (write_after number tries) Writing
+write_in number None = refl
+write_in number (Some tries) = refl
+
+end_in : (tries : Option ℕ) → PhaseOf (end_after tries) Ending
+end_in None = refl
+end_in (Some tries) = refl
+
+pub written_in : (number : ℕ) (tries : Option ℕ) (phase : State) → PhaseOf (write_after number tries) phase → phase ≡ Writing
+written_in number None phase is = is
+written_in number (Some tries) phase is = is
+
+pub ended_in : (tries : Option ℕ) (phase : State) → PhaseOf (end_after tries) phase → phase ≡ Ending
+ended_in None phase is = is
+ended_in (Some tries) phase is = is
 
 pub asked_in : (plan : Parts) (phase : State) (asked : Option Request) (request : Request) → IsInStep plan phase asked → asked ≡ Some request
     → PhaseOf request phase
 asked_in plan Looking asked request is e = subst (λ (r : Request). PhaseOf r Looking) (same_Some asks.Identify request (sym is ∙ e)) refl
 asked_in plan Addressing asked request is e = subst (λ (r : Request). PhaseOf r Addressing) (same_Some asks.Address request (sym is ∙ e)) refl
 asked_in plan Connecting asked request is e = subst (λ (r : Request). PhaseOf r Connecting) (same_Some asks.Connect request (sym is ∙ e)) refl
-asked_in plan Writing asked request is e = subst (λ (r : Request). PhaseOf r Writing) (same_Some (asks.Write is.0) request (sym is.2 ∙ e)) refl
-asked_in plan Ending asked request is e = subst (λ (r : Request). PhaseOf r Ending) (same_Some asks.PrmEnd request (sym is ∙ e)) refl
+asked_in plan Writing asked request is e = subst (λ (r : Request). PhaseOf r Writing) (same_Some (write_after is.0 is.1) request (sym is.3 ∙ e)) (write_in is.0 is.1)
+asked_in plan Ending asked request is e = subst (λ (r : Request). PhaseOf r Ending) (same_Some (end_after is.0) request (sym is.1 ∙ e)) (end_in is.0)
 asked_in plan Waiting asked request is e = absurd (none-some request (sym is ∙ e))
 asked_in plan Exchanging asked request is e = absurd (none-some request (sym is ∙ e))
 asked_in plan (Ended cause) asked request (inl is) e = absurd (none-some request (sym is ∙ e))
@@ -206,10 +229,10 @@ over_kept setup cause live is = record {
   low = is.low;
 }
 
-pub released_kept : (setup : Setup) (cause : Cause) (live : Live) → IsKept setup live → IsKept setup (released setup cause live).live
-released_kept setup cause live is = record {
+pub released_kept : (setup : Setup) (cause : Cause) (live : Live) → IsPlan setup.plan → IsKept setup live → IsKept setup (released setup cause live).live
+released_kept setup cause live plan is = record {
   device = is.device;
-  asked = sequence_few setup.plan live.access.calls live.asked is.asked;
+  asked = sequence_few setup.plan live.access.calls live.asked plan is.asked;
   waited = omega arith;
   stands = refl;
   runs = tt;

@@ -29,19 +29,20 @@ use Rattle.controller_core.specs.stored.Cause.{cause_of}
 use Rattle.controller_core.specs.stored.State.{Controlling, Live, phase_for}
 use Rattle.controller_core.specs.Machine.{Turn, after_turn, asks_next, behind_data, can_begin, end_of, exchange_later, first, fresh_with, is_again, later, plug_readied}
 use Rattle.controller_core.specs.Machine.{standing, stays, step_of, taken, writing}
+use Rattle.controller_core.specs.start_up.Requests.{behind_write, end_after, write_after}
 use Rattle.end_laws.specs.hearing.Stations.{IsSetup}
-use Rattle.end_laws.specs.sending.Sized.{AreFew}
+use Rattle.end_laws.specs.sending.Sized.{AreFew, IsFew}
 use Rattle.end_laws.specs.controller.Small.{IsSteady}
 use Rattle.end_laws.specs.turns.Runs.{IsReached, behind_all}
-use Rattle.end_laws.specs.turns.Turns.{Came, Hears, IsKind, Kind, Rests, Connects, Addresses, Ends, Releases, Relates, Writes, Skips, Waits, Forgets}
+use Rattle.end_laws.specs.turns.Turns.{Came, Hears, IsKind, Kind, Rests, Connects, Addresses, Ends, Releases, Relates, Writes, Skips, Waits, Forgets, Tries}
 use Rattle.end_laws.specs.turns.Turns.{Begins, Repeats, Follows, Takes, IsAcked, Gives, GivesStatus, Asks, IsReplied, IsPlugAnswered, IsPlugReadied}
 use Rattle.end_laws.specs.turns.Turns.{Flows, Breaks, Idles, came_by, turn_by}
 use Rattle.end_laws.specs.turns.Beside.{flow_begun}
-use Rattle.rounds_law.proofs.AnywhereControllerKept.{IsKept, IsOfPlan, KeptWith, PhaseOf, Runs, acked_kept, asked_in, data_kept, exchange_kept, later_kept}
+use Rattle.rounds_law.proofs.AnywhereControllerKept.{IsKept, IsOfPlan, KeptWith, PhaseOf, Runs, acked_kept, asked_in, data_kept, exchange_kept, later_kept, written_in, ended_in}
 use Rattle.rounds_law.proofs.AnywhereControllerKept.{over_kept, released_kept, runs_for, stands_for, stands_in, taken_kept}
 use Rattle.rounds_law.proofs.AnywhereControllerHeard.{answered_by}
 use Rattle.rounds_law.proofs.AnywhereControllerLaws.{ControllerLaws, reached_on, reached_steady}
-use Rattle.rounds_law.proofs.AnywhereControllerSizes.{frame_long, writing_few}
+use Rattle.rounds_law.proofs.AnywhereControllerSizes.{frame_long, writing_few, behind_few, few_so, tried_few}
 use Rattle.rounds_law.proofs.AnywhereTurning.{Turns, event_good, reached_turns, setup_all, setup_on}
 use Rattle.rounds_law.proofs.ControllerPassingParts.{frame_on}
 use Rattle.rounds_law.proofs.PlaceTurns.{HoldsBeside, due_beside, followed_beside}
@@ -102,12 +103,10 @@ module _ (setup : Setup) (good : IsSetup setup) (live : Live) (came : Came) (is 
   }
 
   -- The next Write, or PrmEnd.
-  writing_kept : (number : ℕ) → live.stands ≡ true
-      → KeptWith setup (phase_for (writing_from setup.plan number)) live.device (Some (writing_from setup.plan number)) 0 live.stands live.cyclic
-      live.alarms live.low_alarms
-  writing_kept number there =
-      let next = writing_from setup.plan number in
-      asked_kept (phase_for next) live.device next is.device (writing_few setup.plan number good.plan) (there ∙ stands_for next)
+  writing_kept : (next : Request) → IsFew next → live.stands ≡ true
+      → KeptWith setup (phase_for next) live.device (Some next) 0 live.stands live.cyclic live.alarms live.low_alarms
+  writing_kept next few there =
+      asked_kept (phase_for next) live.device next is.device few (there ∙ stands_for next)
       (runs_for next live.cyclic.begun)
 
   in_phase_of : (request : Request) → live.asked ≡ Some request → PhaseOf request live.phase
@@ -199,11 +198,28 @@ module _ (setup : Setup) (good : IsSetup setup) (live : Live) (came : Came) (is 
   kind_kept (Addresses source) holds few = asked_kept Addressing source asks.Address (station_six source holds.0.known) tt (seeks holds.0.seeking) tt
   kind_kept (Ends cause refusal refused units) holds few = over_kept setup cause (record live { refusal = refusal; refused_record = refused; units = units }) is
   kind_kept (Releases cause refusal refused units) holds few =
-      released_kept setup cause (record live { refusal = refusal; refused_record = refused; units = units }) is
+      released_kept setup cause (record live { refusal = refusal; refused_record = refused; units = units }) good.plan is
   kind_kept (Relates places chosen) holds few = related_kept places chosen
-  kind_kept (Writes number) holds few = writing_kept (number + 1) (is.stands ∙ ap stands_in (in_phase_of (asks.Write number) holds.0.stood))
-  kind_kept (Skips number refused status) holds few = writing_kept (number + 1) (is.stands ∙ ap stands_in (in_phase_of (asks.Write number) holds.stood))
-  kind_kept Waits holds few = unasked_kept Waiting live.cyclic (is.stands ∙ ap stands_in (in_phase_of asks.PrmEnd holds.stood)) tt is.cyclic
+  kind_kept (Writes number tries) holds few =
+      let request = write_after number tries in
+      writing_kept (behind_write setup.plan number tries) (behind_few setup.plan number tries good.plan (few_so live.asked request holds.0.stood is.asked))
+      (is.stands ∙ ap stands_in (written_in number tries live.phase (in_phase_of request holds.0.stood)))
+  kind_kept (Skips number tries refused status) holds few =
+      let request = write_after number tries in
+      writing_kept (behind_write setup.plan number tries) (behind_few setup.plan number tries good.plan (few_so live.asked request holds.stood is.asked))
+      (is.stands ∙ ap stands_in (written_in number tries live.phase (in_phase_of request holds.stood)))
+  kind_kept (Tries next status) holds few = record {
+    device = is.device;
+    asked = tried_few setup.plan status holds.request next holds.tries holds.again (few_so live.asked holds.request holds.stood is.asked);
+    waited = is.waited;
+    stands = is.stands;
+    runs = is.runs;
+    cyclic = is.cyclic;
+    high = is.high;
+    low = is.low;
+  }
+  kind_kept (Waits tries) holds few =
+      unasked_kept Waiting live.cyclic (is.stands ∙ ap stands_in (ended_in tries live.phase (in_phase_of (end_after tries) holds.stood))) tt is.cyclic
   kind_kept Forgets holds few = unasked_kept live.phase live.cyclic is.stands is.runs is.cyclic
   kind_kept (Begins caller call block) holds few = unasked_kept Exchanging (begun_of live.cyclic) (begins_in holds.0) refl is.cyclic
   kind_kept (Repeats caller call block) holds few = is

@@ -1,5 +1,5 @@
 -- The lengths and the numbers of what a controller sends.
-use Rattle.std.proofs.Common.{◌≡◌, ◌≤◌, ◌<◌, ◌+◌, ◌/◌, ◌%◌, cond, nat_lt, ℕ, Bool, true, false, List, [], ◌∷◌, ◌++◌, length, Option, Some, None}
+use Rattle.std.proofs.Common.{◌≡◌, ◌≤◌, ◌<◌, ◌+◌, ◌/◌, ◌%◌, cond, nat_lt, ℕ, Bool, true, false, List, [], ◌∷◌, ◌++◌, length, Option, Some, None, subst, ◌&&◌}
 use Rattle.std.proofs.Common.{Result, Ok, Err, if◌then◌else◌, ◌⊎◌, inl, inr, ◌&&◌, ◌||◌, nat_le, refl, arith}
 use Rattle.std.specs.List.{AllByRecursion}
 use Rattle.std.proofs.lemmas.Bool.{leb-true, ltb-true}
@@ -23,9 +23,11 @@ use Rattle.controller_messages.specs.declared.request.Request.{Request}
 use Rattle.controller_messages.specs.declared.request.Request.TheVariants as asks
 use Rattle.controller_messages.specs.Requests.{write_count, writing_from}
 use Rattle.controller_messages.specs.Sent.{Sent}
-use Rattle.controller_core.specs.start_up.Requests.{next_sequence}
+use Rattle.controller_core.specs.start_up.Requests.{next_sequence, behind_write, tried_as, tries_before, write_after}
 use Rattle.controller_core.specs.Machine.{where_due}
+use Rattle.controller_core.specs.start_up.Answers.{is_busy, is_tried}
 use Rattle.end_laws.specs.hearing.Stations.{IsNumbered}
+use Rattle.rpc_core.specs.declared.response.Status.{Status}
 use Rattle.end_laws.specs.sending.Sized.{AreFew, IsFew, IsShort}
 
 -- ---- cyclic frames
@@ -82,6 +84,8 @@ next_short (Some number) is = let below : (number + 1) % 0x8000 < 0x8000 = mod-l
 pub numbered : (request : Request) → IsFew request → IsNumbered request
 numbered (asks.Write number) is = omega (arith, is)
 numbered (asks.Release sequence) is = is
+numbered (asks.WriteAfter number tries) is = (omega (arith, is.0), is.1)
+numbered (asks.PrmEndAfter tries) is = is
 numbered request is = tt
 
 picked_few : (number : ℕ) (test : Bool) → (test ≡ true → number < 32) → IsFew (if test then asks.Write number else asks.PrmEnd)
@@ -100,11 +104,56 @@ pub writing_few : (plan : Parts) (number : ℕ) → IsPlan plan → IsFew (writi
 writing_few plan number is =
     picked_few number (nat_lt number (write_count plan)) (λ e. let below = ltb-true number (write_count plan) e in omega (arith, below, count_few plan is))
 
+picked_again : (number tries : ℕ) (test : Bool) → (test ≡ true → number < 32) → tries < 65536 → IsFew (if test then asks.WriteAfter number tries else asks.PrmEndAfter tries)
+picked_again number tries true few tried = (few refl, tried)
+picked_again number tries false few tried = tried
+
+-- The same of what follows a Write, after calls that were refused as busy.
+pub behind_few : (plan : Parts) (number : ℕ) (tries : Option ℕ) → IsPlan plan → IsFew (write_after number tries) → IsFew (behind_write plan number tries)
+behind_few plan number None is few = writing_few plan (number + 1) is
+behind_few plan number (Some tries) is few =
+    picked_again (number + 1) tries (nat_lt (number + 1) (write_count plan))
+    (λ e. let below = ltb-true (number + 1) (write_count plan) e in omega (arith, below, count_few plan is)) few.1
+
+pub few_so : (asked : Option Request) (request : Request) → asked ≡ Some request → AreFew asked → IsFew request
+few_so asked request is few = subst (λ (a : Option Request). AreFew a) is few
+
+some_few : (one other : Request) → Some one ≡ Some other → IsFew one → IsFew other
+some_few one other e few = subst (λ (r : Request). IsFew r) (same e) few
+  where
+    same : Some one ≡ Some other → one ≡ other
+    same e = cc
+
+some_none : {P : Type 0} (request : Request) → None ≡ Some request → P
+some_none request e = absurd (never e)
+  where
+    never : None ≡ Some request → ⊥
+    never e = cc
+
+tried_below : (plan : Parts) (status : Status) (tries : ℕ) → is_tried plan status tries ≡ true → tries < 65535
+tried_below plan status tries again =
+    let keyed = and_parts plan.persistent_start (is_busy status && nat_lt tries 65535) again in
+    ltb-true tries 65535 (and_parts (is_busy status) (nat_lt tries 65535) keyed.1).1
+
+-- And of the next try.
+pub tried_few : (plan : Parts) (status : Status) (request next : Request) → tried_as request ≡ Some next → is_tried plan status (tries_before request) ≡ true
+    → IsFew request → IsFew next
+tried_few plan status (asks.Write number) next e again few = some_few _ next e (few, omega arith)
+tried_few plan status asks.PrmEnd next e again few = some_few _ next e (omega arith)
+tried_few plan status (asks.WriteAfter number tries) next e again few = some_few _ next e (few.0, omega (arith, tried_below plan status tries again))
+tried_few plan status (asks.PrmEndAfter tries) next e again few = some_few _ next e (omega (arith, tried_below plan status tries again))
+tried_few plan status asks.Identify next e again few = some_none next e
+tried_few plan status asks.Address next e again few = some_none next e
+tried_few plan status asks.Connect next e again few = some_none next e
+tried_few plan status (asks.Release sequence) next e again few = some_none next e
+
 -- The number of the next call has 32 bits.
-pub sequence_few : (plan : Parts) (calls : ℕ) (asked : Option Request) → AreFew asked → next_sequence plan calls asked < 4294967296
-sequence_few plan calls (Some asks.Connect) few = omega arith
-sequence_few plan calls (Some (asks.Write number)) few = omega (arith, few)
-sequence_few plan calls asked few = mod-lt (write_count plan + 2 + calls) (omega arith)
+pub sequence_few : (plan : Parts) (calls : ℕ) (asked : Option Request) → IsPlan plan → AreFew asked → next_sequence plan calls asked < 4294967296
+sequence_few plan calls (Some asks.Connect) is few = omega arith
+sequence_few plan calls (Some (asks.Write number)) is few = omega (arith, few)
+sequence_few plan calls (Some (asks.WriteAfter number tries)) is few = omega (arith, few.0, few.1)
+sequence_few plan calls (Some (asks.PrmEndAfter tries)) is few = omega (arith, few, count_few plan is)
+sequence_few plan calls asked is few = mod-lt (write_count plan + 2 + calls) (omega arith)
 
 -- ---- messages
 

@@ -26,21 +26,22 @@ use Rattle.controller_messages.specs.Requests.{writing_from}
 use Rattle.controller_messages.specs.Sent.{Requests, Sent}
 use Rattle.controller_core.specs.declared.stored.state.State.{State}
 use Rattle.controller_core.specs.declared.stored.state.State.TheVariants.{Looking, Addressing, Connecting, Writing, Ending, Exchanging}
-use Rattle.controller_core.specs.start_up.Requests.{next_sequence}
+use Rattle.controller_core.specs.start_up.Requests.{next_sequence, behind_write, end_after, write_after}
 use Rattle.controller_core.specs.stored.Alarms.{ack_of, kept_alarm}
 use Rattle.controller_core.specs.stored.State.{Live, left_in, phase_for}
 use Rattle.controller_core.specs.Machine.{Turn, acking, after_turn, behind_ack, behind_data, can_begin, confirming, end_of, is_exchanging, keeping, stays, taken, with_end}
 use Rattle.end_laws.specs.hearing.Stations.{IsSetup}
 use Rattle.end_laws.specs.controller.Small.{IsSteady}
-use Rattle.end_laws.specs.turns.Turns.{Hears, IsKind, Kind, Rests, Connects, Addresses, Ends, Releases, Relates, Writes, Skips, Waits, Forgets}
+use Rattle.end_laws.specs.turns.Turns.{Hears, IsKind, Kind, Rests, Connects, Addresses, Ends, Releases, Relates, Writes, Skips, Waits, Forgets, Tries}
 use Rattle.end_laws.specs.turns.Turns.{Begins, Repeats, Follows, Takes, IsAcked, Gives, GivesStatus, Asks, IsReplied, IsPlugAnswered, IsPlugReadied}
 use Rattle.end_laws.specs.turns.Turns.{Flows, Breaks, Idles, turn_by}
+use Rattle.end_laws.specs.sending.Sized.{IsFew}
 use Rattle.rounds_law.specs.Anywhere.{IsFit}
-use Rattle.rounds_law.proofs.AnywhereControllerKept.{IsKept, PhaseOf, asked_in, data_kept}
+use Rattle.rounds_law.proofs.AnywhereControllerKept.{IsKept, PhaseOf, asked_in, data_kept, written_in, ended_in}
 use Rattle.rounds_law.proofs.AnywhereControllerLaws.{ControllerLaws}
 use Rattle.rounds_law.proofs.AnywhereControllerReached.{heard_in, station_six}
 use Rattle.rounds_law.proofs.AnywhereControllerSent.{Allows, AreSaid, IsChosenIn, agreed, request_said, taken_said}
-use Rattle.rounds_law.proofs.AnywhereControllerSizes.{sequence_few, writing_few}
+use Rattle.rounds_law.proofs.AnywhereControllerSizes.{sequence_few, writing_few, behind_few, few_so}
 use Rattle.rounds_law.proofs.AnywhereParts.{IsAnything, ahead_in}
 use Rattle.rounds_law.proofs.ControllerPassingParts.{frame_on}
 use Rattle.rounds_law.proofs.PlaceTurns.{elsewhere, unfollowed}
@@ -135,12 +136,14 @@ addresses_ahead options left phase e = absurd cc
 relates_ahead : (options : ControllerOptions) (left : ℕ) (phase : State) (next : Request) → phase ≡ Connecting
     → ahead_in options (left_in options left phase (phase_for next)) (phase_for next) ≤ ahead_in options left phase
 relates_ahead options left Connecting (asks.Write number) e = omega arith
+relates_ahead options left Connecting (asks.WriteAfter number tries) e = omega arith
 relates_ahead options left Connecting next e = omega arith
 relates_ahead options left phase next e = absurd cc
 
 writes_ahead : (options : ControllerOptions) (left : ℕ) (phase : State) (next : Request) → phase ≡ Writing
     → ahead_in options (left_in options left phase (phase_for next)) (phase_for next) ≤ ahead_in options left phase
 writes_ahead options left Writing (asks.Write number) e = omega arith
+writes_ahead options left Writing (asks.WriteAfter number tries) e = omega arith
 writes_ahead options left Writing next e = omega arith
 writes_ahead options left phase next e = absurd cc
 
@@ -186,13 +189,18 @@ module _ (laws : ControllerLaws) (setup : Setup) (good : IsSetup setup) (live : 
   station : (source : Mac) → (source ≡ live.device) ⊎ ((answer : Answered) × (Hears heard ≡ Hears (Answers source answer))) → IsMac source
   station source known = station_six setup good live (Hears heard) kept steady answers source known
 
-  next_said : (number : ℕ) → AreSaid setup IsAnything (Requests live.device (writing_from setup.plan number) ∷ [])
-  next_said number = (request_said setup IsAnything live.device (writing_from setup.plan number) kept.device (writing_few setup.plan number good.plan) tt, tt)
+  next_said : (next : Request) → IsFew next → AreSaid setup IsAnything (Requests live.device next ∷ [])
+  next_said next few = (request_said setup IsAnything live.device next kept.device few tt, tt)
+
+  behind_said : (number : ℕ) (tries : Option ℕ) → live.asked ≡ Some (write_after number tries)
+      → AreSaid setup IsAnything (Requests live.device (behind_write setup.plan number tries) ∷ [])
+  behind_said number tries stood =
+      next_said (behind_write setup.plan number tries) (behind_few setup.plan number tries good.plan (few_so live.asked (write_after number tries) stood kept.asked))
 
   release_said : AreSaid setup IsAnything (Requests live.device (asks.Release (next_sequence setup.plan live.access.calls live.asked)) ∷ [])
   release_said = (
     request_said setup IsAnything live.device (asks.Release (next_sequence setup.plan live.access.calls live.asked)) kept.device
-        (sequence_few setup.plan live.access.calls live.asked kept.asked) tt,
+        (sequence_few setup.plan live.access.calls live.asked good.plan kept.asked) tt,
     tt,
   )
 
@@ -221,28 +229,31 @@ module _ (laws : ControllerLaws) (setup : Setup) (good : IsSetup setup) (live : 
   kind_well (Relates places chosen) holds =
       let fits : IsFit setup (Responds holds.0.response) = subst (λ (h : Heard). IsFit setup h) (ap heard_in holds.0.comes) fit in
       record {
-        said = next_said 0;
+        said = next_said (writing_from setup.plan 0) (writing_few setup.plan 0 good.plan);
         routed = λ up. fits holds.0.right holds.0.granted chosen holds.1;
         alone = alone;
         ahead = relates_ahead setup.options live.left live.phase (writing_from setup.plan 0) (in_phase_of asks.Connect holds.0.stood);
       }
-  kind_well (Writes number) holds = record {
-    said = next_said (number + 1);
+  kind_well (Writes number tries) holds = record {
+    said = behind_said number tries holds.0.stood;
     routed = routed;
     alone = alone;
-    ahead = writes_ahead setup.options live.left live.phase (writing_from setup.plan (number + 1)) (in_phase_of (asks.Write number) holds.0.stood);
+    ahead = writes_ahead setup.options live.left live.phase (behind_write setup.plan number tries)
+        (written_in number tries live.phase (in_phase_of (write_after number tries) holds.0.stood));
   }
-  kind_well (Skips number refused status) holds = record {
-    said = next_said (number + 1);
+  kind_well (Skips number tries refused status) holds = record {
+    said = behind_said number tries holds.stood;
     routed = routed;
     alone = alone;
-    ahead = writes_ahead setup.options live.left live.phase (writing_from setup.plan (number + 1)) (in_phase_of (asks.Write number) holds.stood);
+    ahead = writes_ahead setup.options live.left live.phase (behind_write setup.plan number tries)
+        (written_in number tries live.phase (in_phase_of (write_after number tries) holds.stood));
   }
-  kind_well Waits holds = record {
+  kind_well (Tries next status) holds = record { said = tt; routed = routed; alone = alone; ahead = omega arith }
+  kind_well (Waits tries) holds = record {
     said = tt;
     routed = routed;
     alone = alone;
-    ahead = waits_ahead setup.options live.left live.phase (in_phase_of asks.PrmEnd holds.stood);
+    ahead = waits_ahead setup.options live.left live.phase (ended_in tries live.phase (in_phase_of (end_after tries) holds.stood));
   }
   kind_well Forgets holds = record { said = tt; routed = routed; alone = alone; ahead = omega arith }
   kind_well (Begins caller call block) holds = record {

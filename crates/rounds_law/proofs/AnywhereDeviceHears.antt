@@ -54,7 +54,10 @@ request_said setup asks.Address = Asks setup.plan.controller.mac (address_asked 
 request_said setup asks.Connect = Reported (caller_of setup.plan.controller) setup.plan.station.suite.address (Calls (call_for setup asks.Connect))
 request_said setup (asks.Write number) =
     Reported (caller_of setup.plan.controller) setup.plan.station.suite.address (Calls (call_for setup (asks.Write number)))
+request_said setup (asks.WriteAfter number tries) =
+    Reported (caller_of setup.plan.controller) setup.plan.station.suite.address (Calls (call_for setup (asks.WriteAfter number tries)))
 request_said setup asks.PrmEnd = Reported (caller_of setup.plan.controller) setup.plan.station.suite.address (Calls (call_for setup asks.PrmEnd))
+request_said setup (asks.PrmEndAfter tries) = Reported (caller_of setup.plan.controller) setup.plan.station.suite.address (Calls (call_for setup (asks.PrmEndAfter tries)))
 request_said setup (asks.Release sequence) =
     Reported (caller_of setup.plan.controller) setup.plan.station.suite.address (Calls (call_for setup (asks.Release sequence)))
 
@@ -199,7 +202,9 @@ module _ (laws : HearsLaws) (setup : Setup) (identity : Identity) (good : IsSetu
       heard_by_law _ _ _ (laws.address identity setup to good mac) (own_or identity to (Asks setup.plan.controller.mac (address_asked setup.plan)))
   request_heard to asks.Connect mac numbered = call_heard to asks.Connect mac tt numbered
   request_heard to (asks.Write number) mac numbered = call_heard to (asks.Write number) mac tt numbered
+  request_heard to (asks.WriteAfter number tries) mac numbered = call_heard to (asks.WriteAfter number tries) mac tt numbered
   request_heard to asks.PrmEnd mac numbered = call_heard to asks.PrmEnd mac tt numbered
+  request_heard to (asks.PrmEndAfter tries) mac numbered = call_heard to (asks.PrmEndAfter tries) mac tt numbered
   request_heard to (asks.Release sequence) mac numbered = call_heard to (asks.Release sequence) mac tt numbered
 
   confirm_heard : (route : Route) (priority : Priority) (header : Header) (ack : AlarmAck) → IsRoute route → header.kind ≡ pdu.Data

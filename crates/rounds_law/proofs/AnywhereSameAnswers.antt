@@ -147,6 +147,10 @@ module _ (setup : Setup) (Holds : Chosen → Type 0) (silence : ℕ) (station : 
   request_says (asks.Write number) called caller after (Ok octets) effect release = later_says (answer_with (asks.Write number) (Ok octets)) (not_first number)
   request_says asks.PrmEnd called caller after (Ok octets) effect release =
       later_says (answer_with asks.PrmEnd (Ok octets)) (not_first (write_count setup.plan))
+  request_says (asks.WriteAfter number tries) called caller after (Ok octets) effect release =
+      later_says (answer_with (asks.WriteAfter number tries) (Ok octets)) (not_first (number + tries))
+  request_says (asks.PrmEndAfter tries) called caller after (Ok octets) effect release =
+      later_says (answer_with (asks.PrmEndAfter tries) (Ok octets)) (not_first (write_count setup.plan + tries))
   request_says (asks.Release sequence) called caller after (Ok octets) effect release =
       none_says (answer_with (asks.Release sequence) (Ok octets)) (release refl)
 
@@ -260,7 +264,9 @@ module _ (setup : Setup) (Holds : Chosen → Type 0) (silence : ℕ) (station : 
       by_release asks.Address called is caller address e = absurd called
       by_release asks.Connect called is caller address e = absurd cc
       by_release (asks.Write number) called is caller address e = absurd cc
+      by_release (asks.WriteAfter number tries) called is caller address e = absurd cc
       by_release asks.PrmEnd called is caller address e = absurd cc
+      by_release (asks.PrmEndAfter tries) called is caller address e = absurd cc
       by_release (asks.Release sequence) called is caller address e = releases caller address sequence e
 
   -- The response to a call after a plug.

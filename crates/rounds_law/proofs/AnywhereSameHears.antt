@@ -54,7 +54,9 @@ is_control = refl
 -- What is asked for with a request that is a call.
 abbrev pub which_of : Request → Operation
 which_of (asks.Write number) = Write
+which_of (asks.WriteAfter number tries) = Write
 which_of asks.PrmEnd = Control
+which_of (asks.PrmEndAfter tries) = Control
 which_of (asks.Release sequence) = Release
 which_of request = Connect
 
@@ -63,7 +65,9 @@ which_is setup asks.Identify called = absurd called
 which_is setup asks.Address called = absurd called
 which_is setup asks.Connect called = is_connect
 which_is setup (asks.Write number) called = is_write
+which_is setup (asks.WriteAfter number tries) called = is_write
 which_is setup asks.PrmEnd called = is_control
+which_is setup (asks.PrmEndAfter tries) called = is_control
 which_is setup (asks.Release sequence) called = is_release
 
 -- What is asked for with a request after a plug.
@@ -165,7 +169,9 @@ module _ (setup : Setup) (named : List RecordName) (real : Real)
   request_known asks.Address = (tt, tt)
   request_known asks.Connect = (call_planned asks.Connect tt read, own_call asks.Connect tt)
   request_known (asks.Write number) = (call_planned (asks.Write number) tt (λ planned. absurd cc), own_call (asks.Write number) tt)
+  request_known (asks.WriteAfter number tries) = (call_planned (asks.WriteAfter number tries) tt (λ planned. absurd cc), own_call (asks.WriteAfter number tries) tt)
   request_known asks.PrmEnd = (call_planned asks.PrmEnd tt tt, own_call asks.PrmEnd tt)
+  request_known (asks.PrmEndAfter tries) = (call_planned (asks.PrmEndAfter tries) tt tt, own_call (asks.PrmEndAfter tries) tt)
   request_known (asks.Release sequence) = (call_planned (asks.Release sequence) tt tt, own_call (asks.Release sequence) tt)
 
   reply_known : (priority : Priority) (header : Header) (kind : PduType) → IsKnown (replied_said setup priority header kind)

@@ -116,7 +116,9 @@ module _ (setup : Setup) (read : request_of None (plan_connect setup.plan setup.
   connect_asked asks.Address called is = absurd called
   connect_asked asks.Connect called is = refl
   connect_asked (asks.Write number) called is = absurd cc
+  connect_asked (asks.WriteAfter number tries) called is = absurd cc
   connect_asked asks.PrmEnd called is = absurd cc
+  connect_asked (asks.PrmEndAfter tries) called is = absurd cc
   connect_asked (asks.Release sequence) called is = absurd cc
 
   -- The blocks of a call that is a Connect are those of the Connect.

@@ -54,7 +54,7 @@ use Rattle.controller_messages.specs.Heard.{Heard, Nothing, Answers, Responds, R
 use Rattle.controller_messages.specs.Heard.{Cyclic as Comes}
 use Rattle.controller_messages.specs.PlugRequests.{is_plug_answer, is_plug_ready, plug_answer, plug_ready_in}
 use Rattle.controller_messages.specs.RecordRequests.{most_record_octets}
-use Rattle.controller_messages.specs.Requests.{first_of, write_count, writing_from}
+use Rattle.controller_messages.specs.Requests.{first_of, write_count, writing_from, writing_after}
 use Rattle.controller_messages.specs.Sent.{Agrees, Sent}
 use Rattle.controller_core.specs.declared.start_up.outcomes.Outcomes.{Outcomes}
 use Rattle.controller_core.specs.declared.start_up.outcomes.Outcomes.TheVariants.{AllWritten, Unreadable}
@@ -65,24 +65,25 @@ use Rattle.controller_core.specs.declared.stored.state.Cause.{Cause}
 use Rattle.controller_core.specs.declared.stored.state.Cause.TheVariants as why
 use Rattle.controller_core.specs.declared.stored.state.State.{State}
 use Rattle.controller_core.specs.declared.stored.state.State.TheVariants.{Looking, Addressing, Connecting, Writing, Ending, Waiting, Exchanging, Ended}
-use Rattle.controller_core.specs.start_up.Answers.{is_addressed, is_answer, is_found, is_held, is_ready, is_refused, is_right, is_set_answer, ready_in}
+use Rattle.controller_core.specs.start_up.Answers.{is_addressed, is_answer, is_found, is_held, is_ready, is_refused, is_right, is_set_answer, ready_in, is_tried}
 use Rattle.controller_core.specs.start_up.Outcomes.{outcomes_of}
 use Rattle.controller_core.specs.stored.Alarms.{ack_of, is_alarm, kept_alarm}
 use Rattle.controller_core.specs.stored.Cause.{cause_of}
 use Rattle.controller_core.specs.stored.State.{Controlling, Live, phase_for}
-use Rattle.controller_core.specs.Machine.{Turn, acked_under, acking, after_turn, after_write, alarmed, answered, asks_next, begun_by, begun_turn, behind_ack, behind_data}
+use Rattle.controller_core.specs.Machine.{Turn, acked_under, acking, after_turn, after_write, alarmed, answered, asks_next, begun_by, begun_turn, behind_ack, behind_data, refused_end, refused_write}
 use Rattle.controller_core.specs.Machine.{beside, brings, brought, called, can_begin, can_request, confirming, connected, decided, done, end_of, exchange_later}
 use Rattle.controller_core.specs.Machine.{flowed, fresh_with, granted, is_again, is_end_of, is_exchanging, is_plug_awaited, is_spent, keeping, later}
 use Rattle.controller_core.specs.Machine.{noted, noticed, over, past_record, placed, plug_asked, plug_called, plug_finished, plug_passed_by, plug_readied}
 use Rattle.controller_core.specs.Machine.{plug_refused, plug_rejected, plug_replied, plugs_of, quit, readied, refused, refused_beside, refused_by, refused_place}
 use Rattle.controller_core.specs.Machine.{rejected, related_by, released, replied, requested, requests_of, responded, stays, step_from, step_of, step_of_record, taken, ticked}
 use Rattle.controller_core.specs.Machine.{turn_due, turn_of, turned, undone, where_due, with_end}
+use Rattle.controller_core.specs.start_up.Requests.{behind_write, end_after, write_after}
 use Rattle.end_laws.specs.controller.Small.{IsSteady}
 use Rattle.end_laws.specs.turns.Runs.{IsReached, behind_all}
 use Rattle.end_laws.specs.turns.Turns as kinds
 use Rattle.end_laws.specs.turns.Turns.{Came, IsKind, Kind, came_by, turn_by}
 use Rattle.rounds_law.specs.AnywhereFrames.{IsOfPlug}
-use Rattle.rounds_law.proofs.AnywhereControllerKept.{PhaseOf, asked_in}
+use Rattle.rounds_law.proofs.AnywhereControllerKept.{PhaseOf, asked_in, written_in, ended_in}
 use Rattle.rounds_law.proofs.AnywhereControllerLaws.{ControllerLaws, reached_on, reached_steady}
 
 -- ---- the records of a place
@@ -261,27 +262,38 @@ module _ (setup : Setup) where
         either (is_whole found) _ _ (either found.differs _ _ (released_good why.ModuleDiff live) (related_good blocks (chosen_of found))) rests
     connected_good blocks None = rests
 
-    passed_good : (number refused_number : ℕ) (status : Code) → Good (past_record setup number (noted status refused_number live))
-    passed_good number refused_number status =
+    passed_good : (next : Request) (refused_number : ℕ) (status : Code) → Good (past_record setup next (noted status refused_number live))
+    passed_good next refused_number status =
         either setup.plan.continue_on_refused_record _ _ again
         (either setup.plan.release_on_refused_record _ _ (released_good why.Refused (noted status refused_number live))
         (over_good why.Refused (noted status refused_number live) []))
 
-    outcomes_good : (number : ℕ) (outcomes : Outcomes) → Good (after_write setup live number outcomes)
-    outcomes_good number AllWritten = again
-    outcomes_good number (Denied place status) = passed_good number (first_of setup.plan number + place) status
-    outcomes_good number Unreadable = rests
+    outcomes_good : (number : ℕ) (next : Request) (outcomes : Outcomes) → Good (after_write setup live number next outcomes)
+    outcomes_good number next AllWritten = again
+    outcomes_good number next (Denied place status) = passed_good next (first_of setup.plan number + place) status
+    outcomes_good number next Unreadable = rests
 
     done_good : (blocks : List ℕ) (request : Request) → Good (done setup live blocks request)
     done_good blocks asks.Identify = rests
     done_good blocks asks.Address = rests
     done_good blocks asks.Connect = connected_good blocks (found_in 400 blocks nothing)
-    done_good blocks (asks.Write number) = outcomes_good number (outcomes_of setup.plan number blocks)
+    done_good blocks (asks.Write number) = outcomes_good number (writing_from setup.plan (number + 1)) (outcomes_of setup.plan number blocks)
+    done_good blocks (asks.WriteAfter number tries) = outcomes_good number (writing_after setup.plan (number + 1) tries) (outcomes_of setup.plan number blocks)
     done_good blocks asks.PrmEnd = is
+    done_good blocks (asks.PrmEndAfter tries) = is
     done_good blocks (asks.Release sequence) = is
 
+    refused_write_good : (status : Code) (number tries : ℕ) (next : Request) → Good (refused_write setup live status number tries next)
+    refused_write_good status number tries next = either (is_tried setup.plan status tries) _ _ is (passed_good next (first_of setup.plan number) status)
+
+    refused_end_good : (status : Code) (tries : ℕ) → Good (refused_end setup live status tries)
+    refused_end_good status tries = either (is_tried setup.plan status tries) _ _ is (over_good why.Refused (record live { refusal = Some status }) [])
+
     undone_good : (status : Code) (request : Request) → Good (undone setup live status request)
-    undone_good status (asks.Write number) = passed_good number (first_of setup.plan number) status
+    undone_good status (asks.Write number) = refused_write_good status number 0 (writing_from setup.plan (number + 1))
+    undone_good status (asks.WriteAfter number tries) = refused_write_good status number tries (writing_after setup.plan (number + 1) tries)
+    undone_good status asks.PrmEnd = refused_end_good status 0
+    undone_good status (asks.PrmEndAfter tries) = refused_end_good status tries
     undone_good status asks.Connect =
         let next : Live = record live { refusal = Some status } in either (is_held setup.plan status) _ _ (released_good why.Refused next) (over_good why.Refused next [])
     undone_good status request = over_good why.Refused (record live { refusal = Some status }) []
@@ -592,11 +604,14 @@ module _ (setup : Setup) where
     kind_in (kinds.Releases cause refusal refused units) holds = none_in (Ended cause)
     kind_in (kinds.Relates places chosen) holds =
         never (phase_for (writing_from setup.plan 0)) (not_connecting live.phase (in_phase_of asks.Connect holds.0.stood))
-    kind_in (kinds.Writes number) holds =
-        never (phase_for (writing_from setup.plan (number + 1))) (not_writing live.phase (in_phase_of (asks.Write number) holds.0.stood))
-    kind_in (kinds.Skips number refused status) holds =
-        never (phase_for (writing_from setup.plan (number + 1))) (not_writing live.phase (in_phase_of (asks.Write number) holds.stood))
-    kind_in kinds.Waits holds = never Waiting (not_ending live.phase (in_phase_of asks.PrmEnd holds.stood))
+    kind_in (kinds.Writes number tries) holds =
+        never (phase_for (behind_write setup.plan number tries))
+        (not_writing live.phase (written_in number tries live.phase (in_phase_of (write_after number tries) holds.0.stood)))
+    kind_in (kinds.Skips number tries refused status) holds =
+        never (phase_for (behind_write setup.plan number tries))
+        (not_writing live.phase (written_in number tries live.phase (in_phase_of (write_after number tries) holds.stood)))
+    kind_in (kinds.Tries next status) holds = is
+    kind_in (kinds.Waits tries) holds = never Waiting (not_ending live.phase (ended_in tries live.phase (in_phase_of (end_after tries) holds.stood)))
     kind_in kinds.Forgets holds = is
     kind_in (kinds.Begins caller call block) holds = λ request e. refl
     kind_in (kinds.Repeats caller call block) holds = is

@@ -80,6 +80,7 @@ is_reported mine heard =
 -- the state of a request of the start-up is no exchange
 pub unexchanging : (request : Request) → is_exchanging (phase_for request) ≡ false
 unexchanging (asks.Write number) = refl
+unexchanging (asks.WriteAfter number tries) = refl
 unexchanging request = refl
 
 -- a response to a call of this controller
@@ -121,7 +122,7 @@ module _ (so : HeardSo) (setup : Setup) (identity : Identity) (good : IsSetup se
       ∙ response_turns (asks.Write number) written.blocks live asked written.fits (writing setup (writing_from setup.plan (number + 1)) live)
       (where_so (is_answer setup (asks.Write number) answer.header) (decided setup live answer (asks.Write number)) (stays live)
       (is_its_answer setup (number + 1))
-      ∙ ap (after_write setup live number) written.written)
+      ∙ ap (after_write setup live number (writing_from setup.plan (number + 1))) written.written)
       (elsewhere (writing setup (writing_from setup.plan (number + 1)) live).live (unexchanging (writing_from setup.plan (number + 1))))
 
   -- ---- PrmEnd

@@ -1,5 +1,6 @@
 pub mod AskedUnits
 pub mod Choices
+pub mod NeverBusy
 pub mod PlanKept
 pub mod PlaceTurns
 pub mod AnywherePlugs

@@ -41,6 +41,8 @@ IsOfRelation asks.Connect = ⊥
 IsOfRelation (asks.Write number) = Unit {0}
 IsOfRelation asks.PrmEnd = Unit {0}
 IsOfRelation (asks.Release sequence) = Unit {0}
+IsOfRelation (asks.WriteAfter number tries) = Unit {0}
+IsOfRelation (asks.PrmEndAfter tries) = Unit {0}
 
 -- A device without a relation sends a negative response to this call. It still has no relation, and asks its application nothing. A later call
 -- is still a new one, and it has stored no answer of another activity.

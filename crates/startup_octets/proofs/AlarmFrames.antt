@@ -185,6 +185,8 @@ request_carries setup device asks.Address s d = plain_carries 0x8001 setup.plan.
 request_carries setup device asks.Connect s d = datagram_carries 0x8001 setup.plan.controller.mac device _ _ _ s d
 request_carries setup device (asks.Write number) s d = datagram_carries 0x8001 setup.plan.controller.mac device _ _ _ s d
 request_carries setup device asks.PrmEnd s d = datagram_carries 0x8001 setup.plan.controller.mac device _ _ _ s d
+request_carries setup device (asks.WriteAfter number tries) s d = datagram_carries 0x8001 setup.plan.controller.mac device _ _ _ s d
+request_carries setup device (asks.PrmEndAfter tries) s d = datagram_carries 0x8001 setup.plan.controller.mac device _ _ _ s d
 request_carries setup device (asks.Release sequence) s d = datagram_carries 0x8001 setup.plan.controller.mac device _ _ _ s d
 
 dull_carries : (setup : Setup) (message : Sent) → IsSetup setup → CanBeSent setup message → IsDull message → carries 0x8001 (untagged (bytes_of setup message)) ≡ false

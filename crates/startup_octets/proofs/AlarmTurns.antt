@@ -70,7 +70,7 @@ use Rattle.end_laws.specs.device.Turn.{IsRaise, alarm_heard}
 use Rattle.end_laws.specs.hearing.Stations.{IsSetup}
 use Rattle.end_laws.specs.sending.Messages.{CanBeSent}
 use Rattle.end_laws.specs.turns.Alarms.{is_priority}
-use Rattle.end_laws.specs.turns.Turns.{Begins, Breaks, Connects, Addresses, Ends as Over, Releases, Relates, Writes, Skips, Waits, Forgets, Repeats, Rests, Follows, Takes, IsAcked, Gives, GivesStatus, Asks, IsReplied, IsPlugAnswered, IsPlugReadied, Flows, Idles, Hears, Passes, IsKind, IsTurn, Kind, turn_by}
+use Rattle.end_laws.specs.turns.Turns.{Begins, Breaks, Connects, Addresses, Ends as Over, Releases, Relates, Writes, Skips, Tries, Waits, Forgets, Repeats, Rests, Follows, Takes, IsAcked, Gives, GivesStatus, Asks, IsReplied, IsPlugAnswered, IsPlugReadied, Flows, Idles, Hears, Passes, IsKind, IsTurn, Kind, turn_by}
 use Rattle.both_ends.specs.exchange.Over.{one_in, raised_in, taken_by}
 use Rattle.both_ends.proofs.ExchangeOutputsTurns.{KindsSo}
 use Rattle.both_ends.proofs.ExchangeTied.{may_be}
@@ -337,9 +337,10 @@ module _ (setup : Setup) (good : IsSetup setup) (live : Live) (octets : List ℕ
   dull_kind heard (Over cause refusal refused units) other holds = tt
   dull_kind heard (Releases cause refusal refused units) other holds = (tt, tt)
   dull_kind heard (Relates places chosen) other holds = (tt, tt)
-  dull_kind heard (Writes number) other holds = (tt, tt)
-  dull_kind heard (Skips number refused status) other holds = (tt, tt)
-  dull_kind heard Waits other holds = tt
+  dull_kind heard (Writes number tries) other holds = (tt, tt)
+  dull_kind heard (Skips number tries refused status) other holds = (tt, tt)
+  dull_kind heard (Tries next status) other holds = tt
+  dull_kind heard (Waits tries) other holds = tt
   dull_kind heard Forgets other holds = tt
   dull_kind heard (Begins caller call block) other holds = (tt, tt)
   dull_kind heard (Repeats caller call block) other holds = (tt, tt)

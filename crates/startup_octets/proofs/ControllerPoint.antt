@@ -48,6 +48,8 @@ module _ (setup : Setup) (station : Station) where
   other_ask device asks.Connect sequence e = cc
   other_ask device (asks.Write number) sequence e = cc
   other_ask device asks.PrmEnd sequence e = cc
+  other_ask device (asks.WriteAfter number tries) sequence e = cc
+  other_ask device (asks.PrmEndAfter tries) sequence e = cc
   other_ask device (asks.Release other) sequence e = cc
 
   says_no_access : (now : small.Controller) → (now ≡ small.Exchanges → ⊥) → (message : Sent) → SaysToDevice (write_count setup.plan) now (said_by setup.plan message) → (sequence : ℕ)

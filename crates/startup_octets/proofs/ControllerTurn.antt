@@ -40,7 +40,7 @@ use Rattle.controller_core.specs.Machine.{Turn, accesses_by, acks_in, acks_of, a
 use Rattle.end_laws.specs.hearing.Stations.{IsSetup}
 use Rattle.end_laws.specs.sending.Addressed.{IsAimedAt}
 use Rattle.end_laws.specs.turns.Beside.{flow_begun}
-use Rattle.end_laws.specs.turns.Turns.{Begins, Breaks, Connects, Addresses, Ends as Over, Releases, Relates, Writes, Skips, Waits, Forgets, Repeats, Rests, Follows, Takes, IsAcked, Gives, GivesStatus, Asks, IsReplied, IsPlugAnswered, IsPlugReadied, Flows, Idles, Hears, IsKind, IsReadied, IsTurn, Kind, came_by, turn_by}
+use Rattle.end_laws.specs.turns.Turns.{Begins, Breaks, Connects, Addresses, Ends as Over, Releases, Relates, Writes, Skips, Tries, Waits, Forgets, Repeats, Rests, Follows, Takes, IsAcked, Gives, GivesStatus, Asks, IsReplied, IsPlugAnswered, IsPlugReadied, Flows, Idles, Hears, IsKind, IsReadied, IsTurn, Kind, came_by, turn_by}
 use Rattle.end_laws.specs.controller.Small.{readied_by, said_to}
 use Rattle.end_laws.specs.both.Small as small
 use Rattle.octets_law.specs.Octets.{statuses}
@@ -67,6 +67,10 @@ request_silent setup good asked device (asks.Write number) six =
     call_silent asked Device setup.plan.controller.mac device (calls_at setup.plan.controller.address) (calls_at setup.plan.station.suite.address) (call_for setup (asks.Write number)) good.mac six good.address good.station
 request_silent setup good asked device asks.PrmEnd six =
     call_silent asked Device setup.plan.controller.mac device (calls_at setup.plan.controller.address) (calls_at setup.plan.station.suite.address) (call_for setup asks.PrmEnd) good.mac six good.address good.station
+request_silent setup good asked device (asks.WriteAfter number tries) six =
+    call_silent asked Device setup.plan.controller.mac device (calls_at setup.plan.controller.address) (calls_at setup.plan.station.suite.address) (call_for setup (asks.WriteAfter number tries)) good.mac six good.address good.station
+request_silent setup good asked device (asks.PrmEndAfter tries) six =
+    call_silent asked Device setup.plan.controller.mac device (calls_at setup.plan.controller.address) (calls_at setup.plan.station.suite.address) (call_for setup (asks.PrmEndAfter tries)) good.mac six good.address good.station
 request_silent setup good asked device (asks.Release sequence) six =
     call_silent asked Device setup.plan.controller.mac device (calls_at setup.plan.controller.address) (calls_at setup.plan.station.suite.address) (call_for setup (asks.Release sequence)) good.mac six
     good.address good.station
@@ -199,9 +203,10 @@ module _ (setup : Setup) (live : Live) (event : Event) where
   by_kind (Over cause refusal refused units) holds = inl tt
   by_kind (Releases cause refusal refused units) holds = inl (tt, tt)
   by_kind (Relates places chosen) holds = inl (tt, tt)
-  by_kind (Writes number) holds = inl (tt, tt)
-  by_kind (Skips number refused status) holds = inl (tt, tt)
-  by_kind Waits holds = inl tt
+  by_kind (Writes number tries) holds = inl (tt, tt)
+  by_kind (Skips number tries refused status) holds = inl (tt, tt)
+  by_kind (Tries next status) holds = inl tt
+  by_kind (Waits tries) holds = inl tt
   by_kind Forgets holds = inl tt
   by_kind (Begins caller call block) holds = inr (inl (readied_event setup event caller call block holds.1))
   by_kind (Repeats caller call block) holds = inr (inl (readied_event setup event caller call block holds.1))

@@ -2,7 +2,7 @@
 
 use super::{OTHER_MODULES, PUMP};
 use configurator::plan_from_json;
-use controller_core::{Cause, Controller, Event as ControllerEvent, State};
+use controller_core::{Cause, Controller, ControllerOptions, Event as ControllerEvent, State};
 use pn_values::demo_identity;
 use device_core::{Device, Event, Note};
 use flash_model::{MemoryFlash, Order};
@@ -798,6 +798,193 @@ fn no_other_refusal_is_followed_by_a_release() {
         let answer = octets(ends.answers.as_slice()[0].as_slice());
         let refusal = with_status(&answer, status);
         let sent = told(&mut ends.controller, &ControllerEvent::Frame(refusal));
+        ends.is_refused_silently(&sent);
+    }
+}
+
+// ---- calls of the start-up that are refused as busy
+
+/// The catalogue of the demo station with two records of slot 1, each written by a Write of its own; with PersistentStart or without.
+fn with_records(is_persistent: bool) -> String {
+    let text = if is_persistent { persistent() } else { String::from(PUMP) };
+    let input = r#""IOData":{"Input":[{"DataType":"Unsigned16"}]}"#;
+    let items = r#","ParameterRecordDataItem":[{"Index":1,"Length":4},{"Index":2,"Length":4}]"#;
+    let slot = r#"{"Slot":1,"ModuleItemTarget":"IN2""#;
+    let records = r#","Records":[{"Subslot":1,"Index":1,"Data":"00000064"},{"Subslot":1,"Index":2,"Data":"000000c8"}]"#;
+    let changed = text
+        .replace(input, &format!("{input}{items}"))
+        .replace(slot, &format!("{slot}{records}"));
+    assert!(changed.contains(items) && changed.contains(records));
+    changed
+}
+
+// Resource busy, of a Write and of a control.
+const BUSY_WRITE: [u8; 4] = [0xDF, 0x80, 0xC2, 0];
+const BUSY_CONTROL: [u8; 4] = [0xDD, 0x80, 0xC2, 0];
+
+/// A call has this operation and this sequence number.
+fn is_call(call: &Bytes, operation: u8, sequence: u32) {
+    assert_eq!(call.get(106..110), Some(sequence.to_be_bytes().as_slice()));
+    assert_eq!(call.get(110..112), Some([0, operation].as_slice()));
+}
+
+/// SeqNumber in the block of a Write.
+fn has_seq_number(call: &Bytes, number: u16) {
+    assert_eq!(call.get(148..150), Some(number.to_be_bytes().as_slice()));
+}
+
+impl Ends {
+    /// The controller hears that its call with this number is refused with this status: the answer to its Connect, changed. What it sends then.
+    fn hears_refusal(&mut self, connected: &Bytes, sequence: u32, status: [u8; 4]) -> Outbox {
+        let mut refusal = with_status(connected, status);
+        for (place, octet) in (106..110).zip(sequence.to_be_bytes()) {
+            set(&mut refusal, place, octet);
+        }
+        told(&mut self.controller, &ControllerEvent::Frame(refusal))
+    }
+
+    /// The calls of a second, each with its unit. Outputs are sent beside them since the Connect.
+    fn calls(&mut self) -> Vec<(u32, Bytes)> {
+        let mut sent = self.seconds(1);
+        sent.retain(|(_, frame)| frame.get(12..14) == Some([8, 0].as_slice()));
+        sent
+    }
+
+    /// The call is refused as busy. The controller sends nothing, stays in its state, and sends one call with the end of the second.
+    fn tries_again(&mut self, connected: &Bytes, sequence: u32, status: [u8; 4]) {
+        let state = self.controller.state();
+        assert_eq!(self.hears_refusal(connected, sequence, status).len(), 0);
+        self.is_at(state);
+        let mut sent = self.calls();
+        assert_eq!(sent.len(), 1);
+        let (unit, call) = sent.pop().expect("a call");
+        assert_eq!(unit, SECOND);
+        self.is_at(state);
+        self.sent = call;
+    }
+
+    /// The device has answered the Connect of this catalogue. Gives its answer.
+    fn connected(alloc: Global, catalogue: &str) -> (Ends, Bytes) {
+        let mut ends = Ends::new(alloc, catalogue);
+        ends.turns(3);
+        let answer = one(&ends.answers).expect("an answer");
+        (ends, answer)
+    }
+}
+
+// A Write that is refused as busy is tried again with the end of the second, as a new call. Those after it, and those of the application, have
+// the numbers that follow.
+#[test]
+fn a_write_that_is_refused_as_busy_is_tried_again() {
+    let text = with_records(true).replace(r#""PersistentStart":true,"#, r#""PersistentStart":true,"ContinueOnRefusedRecord":true,"#);
+    let (mut ends, answer) = Ends::connected(Global, &text);
+    ends.is_at(State::Writing);
+    is_call(&ends.sent, 3, 1);
+    has_seq_number(&ends.sent, 1);
+    for (sequence, number) in [(1, 2), (2, 3)] {
+        ends.tries_again(&answer, sequence, BUSY_WRITE);
+        is_call(&ends.sent, 3, sequence + 1);
+        has_seq_number(&ends.sent, number);
+    }
+    let sent = ends.hears_refusal(&answer, 3, [0; 4]);
+    ends.sent = one(&sent).expect("the next Write");
+    ends.is_at(State::Writing);
+    is_call(&ends.sent, 3, 4);
+    has_seq_number(&ends.sent, 4);
+    ends.tries_again(&answer, 4, BUSY_WRITE);
+    is_call(&ends.sent, 3, 5);
+    // This device does not have the record, and the plan goes on.
+    ends.turn();
+    ends.has_status([0xDF, 0x80, 0xB0, 0]);
+    ends.is_at(State::Ending);
+    is_call(&ends.sent, 4, 6);
+    ends.turn();
+    ends.is_at(State::Exchanging);
+    ends.turn();
+    ends.is_related(Some(Phase::Exchanging));
+    let read = told(&mut ends.controller, &ControllerEvent::Read(1, 1, 1));
+    is_call(&one(&read).expect("a Read"), 2, 7);
+}
+
+// So is PrmEnd. The response to its last call ends the parameters.
+#[test]
+fn a_prm_end_that_is_refused_as_busy_is_tried_again() {
+    let (mut ends, answer) = Ends::connected(Global, &persistent());
+    ends.is_at(State::Ending);
+    is_call(&ends.sent, 4, 1);
+    for (sequence, status) in [(1, BUSY_CONTROL), (2, BUSY_WRITE), (3, [0, 0x80, 0xC2, 7])] {
+        ends.tries_again(&answer, sequence, status);
+        is_call(&ends.sent, 4, sequence + 1);
+    }
+    ends.turn();
+    ends.is_at(State::Exchanging);
+    ends.turn();
+    ends.is_related(Some(Phase::Exchanging));
+    let stopped = told(&mut ends.controller, &ControllerEvent::Stop);
+    is_call(&one(&stopped).expect("a Release"), 1, 5);
+}
+
+// The refusal of a call that is tried again already changes nothing.
+#[test]
+fn a_refusal_as_busy_that_is_repeated_is_ignored() {
+    let (mut ends, answer) = Ends::connected(Global, &with_records(true));
+    for _ in 0..3 {
+        assert_eq!(ends.hears_refusal(&answer, 1, BUSY_WRITE).len(), 0);
+    }
+    let sent = ends.calls();
+    assert_eq!(sent.len(), 1);
+    is_call(&sent[0].1, 3, 2);
+    let stopped = told(&mut ends.controller, &ControllerEvent::Stop);
+    is_call(&one(&stopped).expect("a Release"), 1, 3);
+}
+
+// A device that stays busy is tried until the patience ends, which is counted from the first try.
+#[test]
+fn a_device_that_stays_busy_ends_with_the_patience() {
+    for (text, status, operation) in [(persistent(), BUSY_CONTROL, 4), (with_records(true), BUSY_WRITE, 3)] {
+        let plan = plan_from_json(Global, text.as_bytes()).ok().expect("there is a plan");
+        let options = ControllerOptions {
+            patience: 2 * SECOND + 9,
+            waiting_patience: 0,
+        };
+        let mut ends = Ends::new(Global, &text);
+        let uuid = |octet| Uuid::from_bytes([octet; 16]);
+        ends.controller = Controller::new_with(plan, uuid(0x11), uuid(0x51), options);
+        ends.turns(3);
+        let answer = one(&ends.answers).expect("an answer");
+        for sequence in 1..=2 {
+            ends.tries_again(&answer, sequence, status);
+            is_call(&ends.sent, operation, sequence + 1);
+        }
+        assert_eq!(ends.hears_refusal(&answer, 3, status).len(), 0);
+        let sent = ends.calls();
+        ends.is_at(State::Ended(Cause::NoProgress));
+        let (unit, release) = &sent[0];
+        assert_eq!(*unit, 9);
+        is_call(release, 1, 5);
+    }
+}
+
+// Any other status ends the controller, and so does a busy device without the key.
+#[test]
+fn no_other_refusal_is_tried_again() {
+    let others = [
+        [0xDF, 0x80, 0xA7, 0],
+        [0xDF, 0x80, 0xC1, 0],
+        [0xDF, 0x80, 0xC3, 0],
+        [0xDF, 0x81, 0xC2, 0],
+        [0xDF, 0xC2, 0x80, 0],
+        [0xDF, 0x80, 0, 0xC2],
+        [0xDB, 0x81, 0x40, 6],
+    ];
+    let with_key = others.map(|status| (true, status));
+    for (is_persistent, status) in with_key.into_iter().chain([(false, BUSY_WRITE), (false, BUSY_CONTROL)]) {
+        let (mut ends, answer) = Ends::connected(Global, &with_records(is_persistent));
+        let sent = ends.hears_refusal(&answer, 1, status);
+        ends.is_refused_silently(&sent);
+        let prm_end = if is_persistent { persistent() } else { String::from(PUMP) };
+        let (mut ends, answer) = Ends::connected(Global, &prm_end);
+        let sent = ends.hears_refusal(&answer, 1, status);
         ends.is_refused_silently(&sent);
     }
 }

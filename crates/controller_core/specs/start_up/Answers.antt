@@ -1,5 +1,5 @@
 -- The answers that a controller expects.
-use Rattle.std.specs.Prelude.{◌==◌, ◌&&◌, ◌++◌, ℕ, Bool, true, false, nat_eq, List, Option, Some, None, [], unwrap_or, if◌then◌else◌, Result, Ok, Err}
+use Rattle.std.specs.Prelude.{◌==◌, ◌&&◌, ◌++◌, ℕ, Bool, true, false, nat_eq, nat_lt, List, Option, Some, None, [], unwrap_or, if◌then◌else◌, Result, Ok, Err}
 use Rattle.std.specs.Cmp.Lexicographic.{pointwise}
 use Rattle.std.specs.Int.{w16, to_be_bytes}
 use Rattle.dcp_core.specs.declared.kind.Kind.TheVariants.{NameOfStation, DeviceId, IpSuite}
@@ -76,6 +76,8 @@ is_call asks.Connect = true
 is_call (asks.Write number) = true
 is_call asks.PrmEnd = true
 is_call (asks.Release sequence) = true
+is_call (asks.WriteAfter number tries) = true
+is_call (asks.PrmEndAfter tries) = true
 
 -- A response to the call for this request: with the activity of the controller, and the number of the call.
 abbrev pub is_answer : Setup → Request → CallHeader → Bool
@@ -96,6 +98,14 @@ is_state_conflict status = status.code == 0xDB && (status.decode == 0x81 && (sta
 -- to its Connect was lost.
 abbrev pub is_held : Parts → Status → Bool
 is_held plan status = plan.persistent_start && is_state_conflict status
+
+-- Resource busy (IEC 61158-6-10, 5.2.6: ErrorDecode PNIORW, ErrorCode1 resource busy, any ErrorCode): the device may do the same later.
+abbrev pub is_busy : Status → Bool
+is_busy status = status.decode == 0x80 && status.code1 == 0xC2
+
+-- Whether the plan says that a Write, or PrmEnd, with this status is tried again by a new call, after this many calls were refused as busy.
+abbrev pub is_tried : Parts → Status → ℕ → Bool
+is_tried plan status tries = plan.persistent_start && (is_busy status && nat_lt tries 65535)
 
 -- An ApplicationReady of the relation.
 abbrev pub is_ready : Setup → ControlBlock → Bool

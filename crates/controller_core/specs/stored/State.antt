@@ -59,6 +59,7 @@ with_live controlling live = record controlling { live = live }
 -- A record is written, or the parameters are ended.
 abbrev pub phase_for : Request → State
 phase_for (asks.Write number) = Writing
+phase_for (asks.WriteAfter number tries) = Writing
 phase_for request = Ending
 
 -- ---- patience

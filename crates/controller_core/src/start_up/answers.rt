@@ -3,7 +3,7 @@ ghost use Rattle.std.specs.Prelude.{◌≡◌, option_map};
 ghost use Rattle.dcp_core.specs.Answered.{answered as answered_as};
 ghost use Rattle.dcp_core.specs.Identify.{suite_bytes};
 ghost use Rattle.rpc_core.specs.Call.{asked};
-ghost use Rattle.controller_core.specs.start_up.Answers.{ident_bytes, is_addressed, is_answer, is_found, is_held, is_ready, is_refused, is_right, is_set_answer, is_reported, is_state_conflict, ready_in};
+ghost use Rattle.controller_core.specs.start_up.Answers.{ident_bytes, is_addressed, is_answer, is_busy, is_found, is_held, is_ready, is_refused, is_right, is_set_answer, is_reported, is_state_conflict, is_tried, ready_in};
 
 use arrayvec::ArrayVec;
 use block_codec::{Block, ControlBlock, read_block};
@@ -103,7 +103,12 @@ pub fn is_answer(setup: &Setup, request: Request, response: &Response<'_>) -> bo
 {
     match request {
         Request::Identify | Request::Address => false,
-        Request::Connect | Request::Write(_) | Request::PrmEnd | Request::Release(_) => {
+        Request::Connect
+        | Request::Write(_)
+        | Request::PrmEnd
+        | Request::Release(_)
+        | Request::WriteAfter(_, _)
+        | Request::PrmEndAfter(_) => {
             // The activity alone is not enough: a late response to the previous request has it too.
             response.header.activity == setup.activity
                 && response.header.sequence == request.sequence(&setup.plan)
@@ -117,7 +122,12 @@ pub fn is_refused(setup: &Setup, request: Request, refusal: &Refusal) -> bool
 {
     match request {
         Request::Identify | Request::Address => false,
-        Request::Connect | Request::Write(_) | Request::PrmEnd | Request::Release(_) => {
+        Request::Connect
+        | Request::Write(_)
+        | Request::PrmEnd
+        | Request::Release(_)
+        | Request::WriteAfter(_, _)
+        | Request::PrmEndAfter(_) => {
             refusal.activity == setup.activity && refusal.sequence == request.sequence(&setup.plan)
         }
     }
@@ -137,6 +147,21 @@ fn is_state_conflict(status: Status) -> bool
     ensures { result ≡ is_state_conflict status }
 {
     status.code == 0xDB && status.decode == 0x81 && status.code1 == 0x40 && status.code2 == 6
+}
+
+/// Whether a Write, or PrmEnd, with this status is tried again by a new call, after this many calls were refused as busy: the plan says so,
+/// and the device may do the same later.
+pub fn is_tried(plan: &Plan, status: Status, tries: u16) -> bool
+    ensures { result ≡ is_tried plan.now status tries }
+{
+    plan.persistent_start() && is_busy(status) && tries < u16::MAX
+}
+
+/// Whether a status is resource busy (IEC 61158-6-10, 5.2.6): ErrorDecode PNIORW, ErrorCode1 resource busy, any ErrorCode.
+fn is_busy(status: Status) -> bool
+    ensures { result ≡ is_busy status }
+{
+    status.decode == 0x80 && status.code1 == 0xC2
 }
 
 /// Whether an ApplicationReady belongs to the relation.

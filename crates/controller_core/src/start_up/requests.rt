@@ -1,6 +1,6 @@
 //! The request that follows, and the number of its call.
 ghost use Rattle.std.specs.Prelude.{◌≡◌, ◌+◌};
-ghost use Rattle.controller_messages.specs.Requests.{writing_from};
+ghost use Rattle.controller_messages.specs.Requests.{writing_after, writing_from};
 ghost use Rattle.controller_core.specs.start_up.Requests.{next_sequence};
 
 use controller_messages::{Request, call_number, write_count};
@@ -13,6 +13,8 @@ pub fn next_sequence(plan: &Plan, calls: u32, asked: Option<Request>) -> u32
     match asked {
         Some(Request::Connect) => 1,
         Some(Request::Write(number)) => u32::from(number) + 2,
+        Some(Request::WriteAfter(number, tries)) => u32::from(number) + u32::from(tries) + 2,
+        Some(Request::PrmEndAfter(tries)) => write_count(plan) + u32::from(tries) + 2,
         _ => call_number(plan, calls),
     }
 }
@@ -25,5 +27,16 @@ pub fn request_behind(plan: &Plan, number: u16) -> Request
         Request::Write(number + 1)
     } else {
         Request::PrmEnd
+    }
+}
+
+/// The request after the Write with this number, after this many calls were refused as busy.
+pub fn request_after(plan: &Plan, number: u16, tries: u16) -> Request
+    ensures { result ≡ writing_after plan.now (number + 1) tries }
+{
+    if u32::from(number) + 1 < write_count(plan) {
+        Request::WriteAfter(number + 1, tries)
+    } else {
+        Request::PrmEndAfter(tries)
     }
 }

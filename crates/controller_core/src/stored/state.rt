@@ -72,7 +72,7 @@ pub fn phase_for(request: Request) -> State
     ensures { result ≡ phase_for request }
 {
     match request {
-        Request::Write(_) => State::Writing,
+        Request::Write(_) | Request::WriteAfter(_, _) => State::Writing,
         _ => State::Ending,
     }
 }

@@ -18,6 +18,7 @@ use Rattle.controller_core.specs.declared.stored.event.Event.TheVariants.{Frame,
 use Rattle.controller_core.specs.stored.State.{Live}
 use Rattle.controller_core.specs.start_up.Answers.{is_ready}
 use Rattle.controller_core.specs.start_up.Outcomes.{are_written}
+use Rattle.controller_core.specs.start_up.Requests.{end_after, write_after}
 use Rattle.controller_core.specs.Machine.{Turn}
 use Rattle.controller_core.specs.start_up.Answers.{ready_in}
 use Rattle.end_laws.specs.both.Small as small
@@ -51,8 +52,8 @@ abbrev pub IsInStep : Parts → State → Option Request → Type 0
 IsInStep plan Looking asked = asked ≡ Some asks.Identify
 IsInStep plan Addressing asked = asked ≡ Some asks.Address
 IsInStep plan Connecting asked = asked ≡ Some asks.Connect
-IsInStep plan Writing asked = (number : ℕ) × (number < write_count plan) × (asked ≡ Some (asks.Write number))
-IsInStep plan Ending asked = asked ≡ Some asks.PrmEnd
+IsInStep plan Writing asked = (number : ℕ) × (tries : Option ℕ) × (number < write_count plan) × (asked ≡ Some (write_after number tries))
+IsInStep plan Ending asked = (tries : Option ℕ) × (asked ≡ Some (end_after tries))
 IsInStep plan Waiting asked = asked ≡ None
 IsInStep plan Exchanging asked = asked ≡ None
 IsInStep plan (Ended cause) asked = (asked ≡ None) ⊎ ((sequence : ℕ) × (asked ≡ Some (asks.Release sequence)))
@@ -106,6 +107,8 @@ asked_by plan asks.Connect = small.Call (sequence_of plan asks.Connect) small.Co
 asked_by plan (asks.Write number) = small.Call (sequence_of plan (asks.Write number)) (small.Writes number)
 asked_by plan asks.PrmEnd = small.Call (sequence_of plan asks.PrmEnd) small.Parameterized
 asked_by plan (asks.Release sequence) = small.Call (sequence_of plan (asks.Release sequence)) small.Releases
+asked_by plan (asks.WriteAfter number tries) = small.Call (sequence_of plan (asks.WriteAfter number tries)) (small.Writes number)
+asked_by plan (asks.PrmEndAfter tries) = small.Call (sequence_of plan (asks.PrmEndAfter tries)) small.Parameterized
 
 -- a request as the call that it is, and the response to ApplicationReady; the calls after a plug are no calls of the start-up
 abbrev pub said_by : Parts → Sent → ToDevice

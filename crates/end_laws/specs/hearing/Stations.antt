@@ -52,6 +52,8 @@ IsNumbered asks.Connect = ⊤
 IsNumbered (asks.Write number) = number < 65536
 IsNumbered asks.PrmEnd = ⊤
 IsNumbered (asks.Release sequence) = sequence < 4294967296
+IsNumbered (asks.WriteAfter number tries) = (number < 65536) × (tries < 65536)
+IsNumbered (asks.PrmEndAfter tries) = tries < 65536
 
 -- a request of the application whose call can be written: its number has four octets, and a call has room for its record
 abbrev pub IsRecordCall : RecordRequest → List ℕ → Type 0
@@ -69,6 +71,8 @@ IsCalled asks.Connect = ⊤
 IsCalled (asks.Write number) = ⊤
 IsCalled asks.PrmEnd = ⊤
 IsCalled (asks.Release sequence) = ⊤
+IsCalled (asks.WriteAfter number tries) = ⊤
+IsCalled (asks.PrmEndAfter tries) = ⊤
 
 -- the frames of a relation go to a partner, under a cyclic FrameID and with tags of two octets
 pub record IsRoute (route : Route) : Type 0 where

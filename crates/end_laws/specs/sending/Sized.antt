@@ -32,6 +32,8 @@ IsFew asks.Connect = ⊤
 IsFew (asks.Write number) = number < 32
 IsFew asks.PrmEnd = ⊤
 IsFew (asks.Release sequence) = sequence < 4294967296
+IsFew (asks.WriteAfter number tries) = (number < 32) × (tries < 65536)
+IsFew (asks.PrmEndAfter tries) = tries < 65536
 
 -- the pending request, if there is one, has its sizes
 abbrev pub AreFew : Option Request → Type 0

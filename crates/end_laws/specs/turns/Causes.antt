@@ -34,6 +34,7 @@ use Rattle.controller_core.specs.declared.stored.state.State.{State}
 use Rattle.controller_core.specs.declared.stored.state.State.TheVariants.{Looking, Addressing, Ended}
 use Rattle.controller_core.specs.start_up.Answers.{ident_bytes, is_state_conflict}
 use Rattle.controller_core.specs.start_up.Outcomes.{are_written}
+use Rattle.controller_core.specs.start_up.Requests.{write_after}
 use Rattle.controller_core.specs.stored.Alarms.{header_of, is_alarm}
 use Rattle.controller_core.specs.stored.State.{Controlling, Live, is_limited}
 use Rattle.controller_core.specs.Machine.{fresh_with, step_of}
@@ -70,7 +71,7 @@ pub record IsOfTheCall (setup : Setup) (live : Live) (activity : List ℕ) (sequ
 -- A response with an error, or one to a Write that says of a record that it was refused.
 abbrev pub IsNegative : Setup → Option Request → Response → Type 0
 IsNegative setup asked response =
-    (is_done response.status ≡ false) ⊎ ((number : ℕ) × (asked ≡ Some (asks.Write number)) × (are_written setup.plan number response.blocks ≡ false))
+    (is_done response.status ≡ false) ⊎ ((number : ℕ) × (tries : Option ℕ) × (asked ≡ Some (write_after number tries)) × (are_written setup.plan number response.blocks ≡ false))
 
 -- The device refuses its address by DCP, or the call that waits, by a response, a reject or a fault.
 abbrev pub IsRefusalIn : Setup → Live → Heard → Type 0

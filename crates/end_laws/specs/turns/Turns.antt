@@ -38,10 +38,11 @@ use Rattle.controller_core.specs.declared.stored.state.State.TheVariants.{Lookin
 use Rattle.controller_core.specs.declared.stored.state.RefusedRecord.{RefusedRecord}
 use Rattle.controller_core.specs.stored.State.{Live}
 use Rattle.controller_messages.specs.Access.{Accessing, call_number, plugged, unplugged}
-use Rattle.controller_core.specs.start_up.Answers.{is_answer, is_ready}
+use Rattle.controller_core.specs.start_up.Answers.{is_answer, is_ready, is_tried}
+use Rattle.controller_core.specs.start_up.Requests.{behind_write, end_after, tried_as, tries_before, write_after}
 use Rattle.controller_core.specs.start_up.Outcomes.{are_written}
 use Rattle.connects.specs.answers.Connect.{Chosen, chosen_of, found_in, nothing}
-use Rattle.controller_core.specs.Machine.{Turn, accessing, acked_under, after_turn, asking, asks_next, behind_ack, behind_data, brought, can_begin, due_frames, end_of, ended_by, given, is_again, later, noted, over, plug_readied, rated, released, requested, requests_of, standing, stays, stopped, taken, ticked, turned, where_due, writing, written}
+use Rattle.controller_core.specs.Machine.{Turn, accessing, acked_under, after_turn, asking, asks_next, behind_ack, behind_data, brought, can_begin, due_frames, end_of, ended_by, given, is_again, later, noted, over, plug_readied, rated, released, requested, requests_of, standing, stays, stopped, taken, ticked, trying, turned, where_due, writing, written}
 use Rattle.controller_core.specs.start_up.Answers.{ready_in}
 use Rattle.end_laws.specs.turns.Beside.{flow_begun}
 use Rattle.end_laws.specs.turns.Ended.{IsReleased, may_release}
@@ -110,7 +111,8 @@ units_behind live came = live.units
 -- Nothing changes, and nothing is sent; a station is asked for the relation, or its address is set; the controller
 -- ends, and these are the last status of a refusal, the last refused record and the units then, or ends and informs the device;
 -- the relation is established with what the device chose, the places are known, and the first Write is sent; the Write after this one is sent,
--- because all its records were accepted, or although one was refused; the controller waits for ApplicationReady; a Release
+-- because all its records were accepted, or although one was refused; a Write or PrmEnd is refused as busy, and sent again with the end of the
+-- second by this request; the controller waits for ApplicationReady; a Release
 -- is no longer active; ApplicationReady is answered, and data is exchanged from then on, or was before; a cyclic frame is
 -- received; an alarm is received, or the ACK of an AlarmAck of a priority; an output is set, or its status; the application
 -- reads or writes a record, or its request is answered; the request after a plug is answered or refused, and the next one is sent if
@@ -123,9 +125,10 @@ pub data Kind : Type 0 where
   Ends : (cause : Cause) → (refusal : Option Status) → (refused : Option RefusedRecord) → (units : ℕ) → Kind
   Releases : (cause : Cause) → (refusal : Option Status) → (refused : Option RefusedRecord) → (units : ℕ) → Kind
   Relates : (places : Told) → (chosen : Chosen) → Kind
-  Writes : (number : ℕ) → Kind
-  Skips : (number refused : ℕ) → (status : Status) → Kind
-  Waits : Kind
+  Writes : (number : ℕ) → (tries : Option ℕ) → Kind
+  Skips : (number : ℕ) → (tries : Option ℕ) → (refused : ℕ) → (status : Status) → Kind
+  Tries : (next : Request) → (status : Status) → Kind
+  Waits : (tries : Option ℕ) → Kind
   Forgets : Kind
   Begins : (caller : Caller) → (call : Call) → (block : ControlBlock) → Kind
   Repeats : (caller : Caller) → (call : Call) → (block : ControlBlock) → Kind
@@ -150,9 +153,10 @@ turn_by setup live (Addresses source) = asking setup Addressing asks.Address (re
 turn_by setup live (Ends cause refusal refused units) = stays (over cause (record live { refusal = refusal; refused_record = refused; units = units }))
 turn_by setup live (Releases cause refusal refused units) = released setup cause (record live { refusal = refusal; refused_record = refused; units = units })
 turn_by setup live (Relates places chosen) = writing setup (writing_from setup.plan 0) (standing setup (record live { places = places }) chosen)
-turn_by setup live (Writes number) = writing setup (writing_from setup.plan (number + 1)) live
-turn_by setup live (Skips number refused status) = writing setup (writing_from setup.plan (number + 1)) (noted status refused live)
-turn_by setup live Waits = stays (record live { phase = Waiting; asked = None; left = setup.options.waiting_patience })
+turn_by setup live (Writes number tries) = writing setup (behind_write setup.plan number tries) live
+turn_by setup live (Skips number tries refused status) = writing setup (behind_write setup.plan number tries) (noted status refused live)
+turn_by setup live (Tries next status) = trying next status live
+turn_by setup live (Waits tries) = stays (record live { phase = Waiting; asked = None; left = setup.options.waiting_patience })
 turn_by setup live Forgets = stays (record live { asked = None })
 turn_by setup live (Begins caller call block) = record {
   live = record live { phase = Exchanging; asked = None; left = 0; cyclic = begun_of live.cyclic };
@@ -197,13 +201,25 @@ pub record IsGranted (setup : Setup) (live : Live) (came : Came) (request : Requ
   pub granted : is_done response.status ≡ true
 
 -- A record that is written is refused, and the plan says that the start-up goes on.
-pub record IsSkipped (setup : Setup) (live : Live) (came : Came) (number : ℕ) : Type 0 where
-  pub stood : live.asked ≡ Some (asks.Write number)
+pub record IsSkipped (setup : Setup) (live : Live) (came : Came) (number : ℕ) (tries : Option ℕ) : Type 0 where
+  pub stood : live.asked ≡ Some (write_after number tries)
   pub response : Response
   pub comes : came ≡ Hears (Responds response)
-  pub right : is_answer setup (asks.Write number) response.header ≡ true
+  pub right : is_answer setup (write_after number tries) response.header ≡ true
   pub refused : (is_done response.status && are_written setup.plan number response.blocks) ≡ false
   pub goes_on : setup.plan.continue_on_refused_record ≡ true
+
+-- The active Write, or PrmEnd, is refused as busy with this status, and the plan says that it is tried again, by this request.
+pub record IsBusy (setup : Setup) (live : Live) (came : Came) (next : Request) (status : Status) : Type 0 where
+  pub request : Request
+  pub stood : live.asked ≡ Some request
+  pub tries : tried_as request ≡ Some next
+  pub response : Response
+  pub comes : came ≡ Hears (Responds response)
+  pub right : is_answer setup request response.header ≡ true
+  pub negative : is_done response.status ≡ false
+  pub is_status : response.status ≡ status
+  pub again : is_tried setup.plan status (tries_before request) ≡ true
 
 -- What a controller finds in the answer to a Connect.
 abbrev TypeOf : {A : Type 0} → A → Type 0
@@ -239,10 +255,11 @@ IsKind setup live came (Releases cause refusal refused units) = IsGoing setup.pl
 IsKind setup live came (Relates places chosen) =
     (granted : IsGranted setup live came asks.Connect) × (chosen_in granted.response.blocks ≡ Some chosen)
     × (places ≡ opened setup.plan 400 granted.response.blocks)
-IsKind setup live came (Writes number) =
-    (granted : IsGranted setup live came (asks.Write number)) × (are_written setup.plan number granted.response.blocks ≡ true)
-IsKind setup live came (Skips number refused status) = IsSkipped setup live came number
-IsKind setup live came Waits = IsGranted setup live came asks.PrmEnd
+IsKind setup live came (Writes number tries) =
+    (granted : IsGranted setup live came (write_after number tries)) × (are_written setup.plan number granted.response.blocks ≡ true)
+IsKind setup live came (Skips number tries refused status) = IsSkipped setup live came number tries
+IsKind setup live came (Tries next status) = IsBusy setup live came next status
+IsKind setup live came (Waits tries) = IsGranted setup live came (end_after tries)
 IsKind setup live came Forgets = (heard : Heard) × (came ≡ Hears heard) × IsReleased setup live heard
 IsKind setup live came (Begins caller call block) = ((live.phase ≡ Ending) ⊎ (live.phase ≡ Waiting)) × IsReadied setup came caller call block
 IsKind setup live came (Repeats caller call block) = (live.phase ≡ Exchanging) × IsReadied setup came caller call block
