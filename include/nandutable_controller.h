@@ -122,7 +122,9 @@ typedef struct pn_plan {
     uint32_t patience;         /* not of a catalogue: for how many units (PN_UNIT_NS) a state of the start-up lasts at most; 0: no limit */
     uint32_t waiting_patience; /* the same for the state in which the controller waits for the ApplicationReady */
     uint32_t parameters_after_plug; /* not 0: the controller writes the records of a submodule again after it was plugged (ParametersAfterPlug) */
-    uint32_t persistent_start; /* not 0: the controller sends a Release when its Connect is refused with State conflict (PersistentStart) */
+    /* not 0 (PersistentStart): the controller sends a Release when its Connect is refused with State conflict, and tries a Write of the start-up, or
+     * PrmEnd, that is refused as busy (ErrorDecode 0x80, ErrorCode1 0xC2) again each second, within the patience */
+    uint32_t persistent_start;
 } pn_plan;
 
 /* The neighbour of a controller by LLDP: the texts of its PortID and its ChassisID (a MAC address as `02-00-00-00-00-01`), and the MAC
@@ -522,7 +524,7 @@ static inline uint32_t pn_controller_neighbour(const pn_controller *controller, 
     return answer;
 }
 
-/* The status with which the device refused a call last: the PNIOStatus of its response (the first octet, ErrorCode, is the highest:
+/* The status with which the device refused a call last, also one that is tried again: the PNIOStatus of its response (the first octet, ErrorCode, is the highest:
  * 0xDF80B200), or the status of a reject or a fault of DCE RPC. Also in `status` of the operation. May return PN_NO_REFUSAL. */
 static inline uint32_t pn_controller_refusal(const pn_controller *controller, pn_op *op, uint32_t *status)
 {

@@ -10,6 +10,9 @@
 #define BLOCK_ERROR_VALUE 3u
 /* The lowest ErrorCode of a PNIOStatus. The statuses of rejects and faults begin with a lower octet. */
 #define LEAST_ERROR_CODE 0x20u
+/* ErrorDecode PNIORW, and ErrorCode1 resource busy. */
+#define DECODE_RECORD 0x80u
+#define CODE_BUSY 0xC2u
 /* The number of records of a list. */
 #define LISTED 10u
 
@@ -59,6 +62,11 @@ void reasons_hear(struct reasons *reasons, const pn_plan *plan, const uint8_t *o
         hear_set(reasons, octets, length);
     else if (at != 0 && length >= at + 18 && octets[at] == 0xFE && octets[at + 1] == 0x01 && (octets[at + 6] & 15) == 4)
         memcpy(reasons->status, octets + at + 14, sizeof reasons->status);
+}
+
+int reasons_is_busy(const uint8_t status[4])
+{
+    return status[1] == DECODE_RECORD && status[2] == CODE_BUSY;
 }
 
 uint32_t reasons_written(const pn_plan *plan, uint32_t number, uint32_t *place)
@@ -122,7 +130,7 @@ static void record_words(const pn_plan *plan, uint32_t refused, const uint8_t *s
 static void refusal_words(const struct reasons *reasons, const pn_plan *plan, char *text, size_t size)
 {
     char call[128], status[STATUSES_LONGEST + 32];
-    reasons_call(plan, reasons->sequence, call, sizeof call);
+    reasons_call(plan, reasons->sequence - reasons->tries, call, sizeof call);
     reasons_status(reasons->status, status, sizeof status);
     snprintf(text, size, ": %s, %s", call, status);
 }

@@ -8,6 +8,7 @@
 struct reasons {
     uint8_t status[4];   /* PNIOStatus of the last response or ERR that has one, or the status of a reject or a fault */
     uint32_t sequence;   /* of that response */
+    uint32_t tries;      /* how many calls before its call were refused as busy, and tried again */
     struct differences differences; /* of the answer to the Connect */
     uint8_t block_error; /* of the last refused Set */
     int has_identity;    /* a station with the plan's name answered Identify, */
@@ -16,6 +17,9 @@ struct reasons {
 
 /* Reads a received frame. */
 void reasons_hear(struct reasons *reasons, const pn_plan *plan, const uint8_t *octets, size_t length);
+
+/* Whether a PNIOStatus says that the device is busy (PNIORW, resource busy): the controller then tries a Write of the start-up, or PrmEnd, again. */
+int reasons_is_busy(const uint8_t status[4]);
 
 /* The meaning of a BlockError of a Set. */
 const char *reasons_block_error(uint8_t error);
@@ -27,7 +31,7 @@ uint32_t reasons_written(const pn_plan *plan, uint32_t number, uint32_t *place);
 /* Writes which record of the plan was written. */
 void reasons_record(const pn_plan *plan, uint32_t place, char *text, size_t size);
 
-/* Writes which call a sequence number is of: the Connect, a Write of records of the plan, PrmEnd, or another one. */
+/* Writes which call a sequence number is of, without tries: the Connect, a Write of records of the plan, PrmEnd, or another one. */
 void reasons_call(const pn_plan *plan, uint32_t sequence, char *text, size_t size);
 
 /* Writes a status with its meaning: a PNIOStatus, or the one of a call that was rejected. */

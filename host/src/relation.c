@@ -313,6 +313,7 @@ static void tell_end(struct relation *relation)
     uint8_t status[4];
     uint32_t place = 0;
     const uint8_t *refused = is_of_list(relation, &place, status) ? status : NULL;
+    relation->reasons.tries = relation->waiting.tries;
     if (relation->cause == PN_NO_PROGRESS)
         snprintf(why, sizeof why, ": %s", relation->stuck);
     else
@@ -379,7 +380,6 @@ static void look_at_names(struct relation *relation, const uint8_t *octets, size
 static void hear(struct relation *relation, const uint8_t *octets, size_t length)
 {
     reasons_hear(&relation->reasons, &relation->plan, octets, length);
-    waiting_hear(&relation->waiting, octets, length);
     look_at_names(relation, octets, length);
 }
 
@@ -412,6 +412,8 @@ void relation_tick(struct relation *relation)
 void relation_take(struct relation *relation, const uint8_t *octets, size_t length)
 {
     catch_up(relation);
+    if (!wire_is_cyclic(octets, length))
+        waiting_hear(&relation->waiting, octets, length);
     loop_must(pn_controller_frame(&relation->room, &relation->op, octets, length), "pn_controller_frame");
     send_all(relation);
     look_ahead(relation);

@@ -16,6 +16,7 @@ static void note_progress(struct waiting *waiting)
     waiting->since = ticker_now();
     waiting->pause = FIRST_PAUSE;
     waiting->is_asked = 0;
+    waiting->is_busy = 0;
 }
 
 void waiting_start(struct waiting *waiting, const pn_plan *plan)
@@ -40,12 +41,27 @@ void waiting_sent(struct waiting *waiting, const uint8_t *octets, size_t length)
     if (!calls_is(octets, length, CALLS_REQUEST) || calls_sequence(octets) == waiting->sequence)
         return;
     waiting->sequence = calls_sequence(octets);
-    note_progress(waiting);
+    if (waiting->is_busy)
+        waiting->tries++;
+    else
+        note_progress(waiting);
+}
+
+/* The answer to the last call, if it is a Write of the start-up or PrmEnd. */
+static void hear_answer(struct waiting *waiting, const uint8_t *octets, size_t length)
+{
+    int is_tried = waiting->state == PN_WRITING || waiting->state == PN_ENDING;
+    uint8_t status[4];
+    if (!is_tried || !calls_is(octets, length, CALLS_RESPONSE) || calls_sequence(octets) != waiting->sequence)
+        return;
+    calls_status(octets, status);
+    waiting->is_busy = reasons_is_busy(status);
 }
 
 void waiting_hear(struct waiting *waiting, const uint8_t *octets, size_t length)
 {
     struct arp_packet packet;
+    hear_answer(waiting, octets, length);
     if (!waiting->is_asked || !arp_read(octets, length, &packet) || packet.is_request ||
         memcmp(packet.sender_address, waiting->plan->address, 4) != 0)
         return;
@@ -85,17 +101,30 @@ static void arp_words(const struct waiting *waiting, char *text, size_t size)
                  address[1], address[2], address[3]);
 }
 
-static void write_words(const struct waiting *waiting, char *text, size_t size)
+/* The call of the start-up that has no positive answer yet. */
+static void call_words(const struct waiting *waiting, char *text, size_t size)
 {
     const pn_plan *plan = waiting->plan;
-    uint32_t place = 0, count = reasons_written(plan, waiting->sequence, &place);
+    uint32_t place = 0, number = waiting->sequence - waiting->tries, count = reasons_written(plan, number, &place);
     char call[128];
-    if (count == 0) {
-        snprintf(text, size, "no answer to a Write");
-        return;
+    if (waiting->state == PN_ENDING) {
+        snprintf(text, size, "PrmEnd");
+    } else if (count == 0) {
+        snprintf(text, size, "a Write");
+    } else {
+        reasons_call(plan, number, call, sizeof call);
+        snprintf(text, size, "the %s, %u of %u", call, (unsigned)place + 1, (unsigned)plan->record_count);
     }
-    reasons_call(plan, waiting->sequence, call, sizeof call);
-    snprintf(text, size, "no answer to the %s, %u of %u", call, (unsigned)place + 1, (unsigned)plan->record_count);
+}
+
+static void answer_words(const struct waiting *waiting, const char *mac, char *text, size_t size)
+{
+    char call[176];
+    call_words(waiting, call, sizeof call);
+    if (waiting->is_busy)
+        snprintf(text, size, "%s is busy and refuses %s; it is tried again each second", mac, call);
+    else
+        snprintf(text, size, "no answer to %s", call);
 }
 
 static void words_of_state(const struct waiting *waiting, char *text, size_t size)
@@ -111,8 +140,8 @@ static void words_of_state(const struct waiting *waiting, char *text, size_t siz
         return;
     case PN_ADDRESSING: snprintf(text, size, "%s answers Identify, but not the Set of its address%s", mac, arp); return;
     case PN_CONNECTING: snprintf(text, size, "%s does not answer the Connect%s", mac, arp); return;
-    case PN_WRITING: write_words(waiting, text, size); return;
-    case PN_ENDING: snprintf(text, size, "no answer to PrmEnd"); return;
+    case PN_WRITING:
+    case PN_ENDING: answer_words(waiting, mac, text, size); return;
     default: snprintf(text, size, "%s has not sent ApplicationReady", mac); return;
     }
 }

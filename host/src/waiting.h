@@ -10,6 +10,8 @@ struct waiting {
     const pn_plan *plan;
     uint32_t state;
     uint32_t sequence;  /* of the last call that was sent */
+    uint32_t tries;     /* of the calls before it: those of the start-up that were refused as busy, and tried again */
+    int is_busy;        /* the last answer to a Write of the start-up, or to PrmEnd, is that the device is busy */
     uint8_t device[6];  /* to which the last request went */
     uint64_t since;     /* the last progress, in nanoseconds of the clock */
     uint64_t pause;     /* from then to the next line, in nanoseconds */
@@ -25,10 +27,10 @@ void waiting_start(struct waiting *waiting, const pn_plan *plan);
 /* Notes the state. Another state is progress. */
 void waiting_state(struct waiting *waiting, uint32_t state);
 
-/* Reads a sent frame. The first one of another call is progress. */
+/* Reads a sent frame. The first one of another call is progress, unless the device was busy: then it is another try. */
 void waiting_sent(struct waiting *waiting, const uint8_t *octets, size_t length);
 
-/* Reads a received frame. */
+/* Reads a received frame, before the controller does. */
 void waiting_hear(struct waiting *waiting, const uint8_t *octets, size_t length);
 
 /* Sends an ARP request for the plan's address a second before a line whose text depends on the answer. */

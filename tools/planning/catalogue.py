@@ -43,9 +43,10 @@ submodules. With more words it prints the catalogue of a station:
                                   plugged: 'parameters' (it writes the records
                                   again) or 'nothing' (without it)
     --start WHAT                  what the controller does if the device holds
-                                  its relation already: 'persistent' (it
-                                  releases the relation, so that the next start
-                                  succeeds) or 'plain' (without it)
+                                  its relation already, or is busy: 'persistent'
+                                  (it releases the relation, so that the next
+                                  start succeeds, and asks again each second)
+                                  or 'plain' (it ends; without it)
     --record SLOT:SUBSLOT:INDEX=HEX
                                   the octets of a parameter record, in place of
                                   those by default
