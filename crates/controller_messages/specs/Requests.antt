@@ -1,5 +1,5 @@
 -- What a controller asks of a device at a start-up, and the messages for it.
-use Rattle.std.specs.Prelude.{◌+◌, ◌-◌, ◌*◌, ◌/◌, ◌%◌, ℕ, List, [], ◌∷◌, ◌++◌, length, take, drop, replicate, nat_lt, Option, Some, None, if◌then◌else◌}
+use Rattle.std.specs.Prelude.{◌+◌, ◌-◌, ◌*◌, ◌/◌, ℕ, List, [], ◌∷◌, ◌++◌, length, take, drop, replicate, nat_lt, Option, Some, None, if◌then◌else◌}
 use Rattle.std.specs.List.{slice_get}
 use Rattle.std.specs.Int.{w16, to_be_bytes}
 use Rattle.dcp_core.specs.declared.kind.Kind.TheVariants.{IpSuite, NameOfStation}
@@ -159,23 +159,15 @@ list_blocks setup number (entry ∷ entries) =
     block_bytes (is.IodWriteReq (list_of setup number (length (entries_bytes setup number (entry ∷ entries)))))
     ++ entries_bytes setup number (entry ∷ entries)
 
--- The blocks of the records of a Write: those of a list, or of the one record. SeqNumber is one more than `call`.
-abbrev pub written_by : Setup → ℕ → ℕ → List ℕ
-written_by setup call number =
-    if setup.plan.multiple_write then list_blocks setup call (group_of setup.plan number)
-    else write_blocks setup call (slice_get setup.plan.records.items number)
-
--- The blocks of a Write: SeqNumber is the number of its call.
+-- The blocks of a Write: those of a list, or of the one record.
 abbrev pub writing_blocks : Setup → ℕ → List ℕ
-writing_blocks setup number = written_by setup number number
-
--- The blocks of a Write after this many calls were refused as busy. SeqNumber is the number of its call; after 65,535 it is 1 again.
-abbrev pub rewriting_blocks : Setup → ℕ → ℕ → List ℕ
-rewriting_blocks setup number tries = written_by setup ((number + tries) % 65535) number
+writing_blocks setup number =
+    if setup.plan.multiple_write then list_blocks setup number (group_of setup.plan number)
+    else write_blocks setup number (slice_get setup.plan.records.items number)
 
 -- ---- the blocks of a call
 
--- The blocks of each call.
+-- The blocks of each call. Those of a try are those of the first call, SeqNumber included: only the call has a number of its own.
 abbrev pub blocks_of : Setup → Request → List ℕ
 blocks_of setup Identify = []
 blocks_of setup Address = []
@@ -183,7 +175,7 @@ blocks_of setup Connect = connect_of setup.plan setup.ar
 blocks_of setup (Write number) = writing_blocks setup number
 blocks_of setup PrmEnd = block_bytes (is.PrmEnd (control_of setup 1))
 blocks_of setup (Release sequence) = block_bytes (is.Release (control_of setup 4))
-blocks_of setup (WriteAfter number tries) = rewriting_blocks setup number tries
+blocks_of setup (WriteAfter number tries) = writing_blocks setup number
 blocks_of setup (PrmEndAfter tries) = block_bytes (is.PrmEnd (control_of setup 1))
 
 -- The call: its response may have 1,372 octets of blocks.

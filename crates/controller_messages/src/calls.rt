@@ -8,7 +8,7 @@ ghost use Rattle.frame_codec.specs.Outbox.{boxed};
 
 use crate::request::Request;
 use crate::setup::Setup;
-use crate::writes::{put_write, put_write_again};
+use crate::writes::put_write;
 use arrayvec::ArrayVec;
 use block_codec::{Block, ControlBlock, write_block};
 use connect_blocks::control_len;
@@ -96,11 +96,9 @@ fn put_blocks(setup: &Setup, request: Request, blocks: &mut ArrayVec<u8, 1372>)
     match request {
         Request::Identify | Request::Address => {}
         Request::Connect => *blocks = setup.plan.connect(&setup.ar),
-        Request::Write(number) => put_write(setup, number, blocks),
-        Request::PrmEnd => put_prm_end(setup, blocks),
+        Request::Write(number) | Request::WriteAfter(number, _) => put_write(setup, number, blocks),
+        Request::PrmEnd | Request::PrmEndAfter(_) => put_prm_end(setup, blocks),
         Request::Release(_) => put_release(setup, blocks),
-        Request::WriteAfter(number, tries) => put_write_again(setup, number, tries, blocks),
-        Request::PrmEndAfter(_) => put_prm_end(setup, blocks),
     }
 }
 

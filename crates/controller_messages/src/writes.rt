@@ -2,7 +2,7 @@
 ghost use Rattle.std.specs.Prelude.{◌≡◌, ◌+◌, ◌*◌, ◌<◌, ◌≤◌, ◌++◌, [], Some, length};
 ghost use Rattle.std.specs.List.{slice_get};
 ghost use Rattle.arrayvec.specs.ArrayVec.{array_vec_len};
-ghost use Rattle.controller_messages.specs.Requests.{blocks_of, entries_bytes, entry_bytes, first_of, group_of, list_blocks, padding_of, per_call, rewriting_blocks, write_blocks, write_count, written_by};
+ghost use Rattle.controller_messages.specs.Requests.{blocks_of, entries_bytes, entry_bytes, first_of, group_of, list_blocks, padding_of, per_call, write_blocks, write_count};
 
 use crate::request::Request;
 use crate::setup::Setup;
@@ -124,7 +124,7 @@ fn put_entry(setup: &Setup, number: u16, entry: &PlanRecord, blocks: &mut ArrayV
 
 /// Writes the records of a list into an empty list of octets.
 fn put_entries(setup: &Setup, number: u16, group: &[PlanRecord], blocks: &mut ArrayVec<u8, 1372>)
-    requires number { 0 < length group.now → number < 65535 }
+    requires number { number < 65535 }
     requires few { length group.now ≤ 10 }
     requires empty { blocks.old.items ≡ [] }
     ensures items { blocks.new.items ≡ entries_bytes setup.now number group.now }
@@ -139,7 +139,7 @@ fn put_entries(setup: &Setup, number: u16, group: &[PlanRecord], blocks: &mut Ar
 #[inline(never)]
 #[tactic(auto, unfolding(block_codec::specs::Block::block_size, block_codec::specs::Block::fields_of, wire::specs::blocks::Fields::body, wire::specs::blocks::Fields::version))]
 fn put_list(setup: &Setup, number: u16, group: &[PlanRecord], blocks: &mut ArrayVec<u8, 1372>)
-    requires number { 0 < length group.now → number < 65535 }
+    requires number { 0 < length group.now → number < 32 }
     requires few { length group.now ≤ 10 }
     requires empty { blocks.old.items ≡ [] }
     ensures { blocks.new.items ≡ list_blocks setup.now number group.now }
@@ -167,42 +167,17 @@ fn put_list(setup: &Setup, number: u16, group: &[PlanRecord], blocks: &mut Array
     append(blocks, entries.as_slice());
 }
 
-/// Writes the blocks of the records of a Write into an empty list of octets, if the plan has them. SeqNumber is one more than `call`.
-fn put_records(setup: &Setup, call: u16, number: u16, blocks: &mut ArrayVec<u8, 1372>)
-    requires call { number < 32 → call < 65535 }
-    requires empty { blocks.old.items ≡ [] }
-    ensures { blocks.new.items ≡ written_by setup.now call number }
-{
-    if setup.plan.has_multiple_write() {
-        put_list(setup, call, group_of(&setup.plan, number), blocks);
-        return;
-    }
-    if let Some(entry) = setup.plan.records().get(number as usize) {
-        put_record(setup, call, entry, blocks);
-    }
-}
-
 /// Writes the blocks of a Write into an empty list of octets, if the plan has its records.
 #[inline(never)]
 pub(crate) fn put_write(setup: &Setup, number: u16, blocks: &mut ArrayVec<u8, 1372>)
     requires empty { blocks.old.items ≡ [] }
     ensures { blocks.new.items ≡ blocks_of setup.now (Request.Write number) }
 {
-    put_records(setup, number, number, blocks);
-}
-
-/// Writes the blocks of a Write after this many calls were refused as busy into an empty list of octets, if the plan has its records.
-#[inline(never)]
-pub(crate) fn put_write_again(
-    setup: &Setup,
-    number: u16,
-    tries: u16,
-    blocks: &mut ArrayVec<u8, 1372>,
-)
-    requires empty { blocks.old.items ≡ [] }
-    ensures { blocks.new.items ≡ rewriting_blocks setup.now number tries }
-{
-    // SeqNumber has 16 bits, and 0 is that of the Connect.
-    let call = (u32::from(number) + u32::from(tries)) % 65_535;
-    put_records(setup, call as u16, number, blocks);
+    if setup.plan.has_multiple_write() {
+        put_list(setup, number, group_of(&setup.plan, number), blocks);
+        return;
+    }
+    if let Some(entry) = setup.plan.records().get(number as usize) {
+        put_record(setup, number, entry, blocks);
+    }
 }

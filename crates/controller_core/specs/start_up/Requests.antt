@@ -4,14 +4,14 @@ use Rattle.plans.specs.declared.parts.Parts.{Parts}
 use Rattle.controller_messages.specs.declared.request.Request.{Request}
 use Rattle.controller_messages.specs.declared.request.Request.TheVariants as asks
 use Rattle.controller_messages.specs.Access.{call_number}
-use Rattle.controller_messages.specs.Requests.{write_count, writing_after, writing_from}
+use Rattle.controller_messages.specs.Requests.{writing_after, writing_from}
 
--- The number of the call after the last one: after this many requests of the application, which follow PrmEnd.
+-- The number of the call after the last one. After PrmEnd, the calls are counted: those that were refused as busy, and the requests of the
+-- application.
 abbrev pub next_sequence : Parts → ℕ → Option Request → ℕ
 next_sequence plan calls (Some asks.Connect) = 1
 next_sequence plan calls (Some (asks.Write number)) = number + 2
 next_sequence plan calls (Some (asks.WriteAfter number tries)) = number + tries + 2
-next_sequence plan calls (Some (asks.PrmEndAfter tries)) = write_count plan + tries + 2
 next_sequence plan calls request = call_number plan calls
 
 -- ---- calls after some were refused as busy

@@ -14,7 +14,6 @@ pub fn next_sequence(plan: &Plan, calls: u32, asked: Option<Request>) -> u32
         Some(Request::Connect) => 1,
         Some(Request::Write(number)) => u32::from(number) + 2,
         Some(Request::WriteAfter(number, tries)) => u32::from(number) + u32::from(tries) + 2,
-        Some(Request::PrmEndAfter(tries)) => write_count(plan) + u32::from(tries) + 2,
         _ => call_number(plan, calls),
     }
 }
