@@ -1,5 +1,5 @@
 -- Both ends of a network, as far as a start-up is concerned.
-use Rattle.std.specs.Prelude.{◌≡◌, ◌⊎◌, ◌&&◌, ℕ, zero, suc, Bool, false, nat_eq, nat_lt, List, map, slice_get, Some}
+use Rattle.std.specs.Prelude.{◌≡◌, ◌⊎◌, ◌&&◌, ℕ, Bool, nat_eq, nat_lt, List, map, slice_get, Some}
 use Rattle.std.specs.List.{AllByRecursion}
 use Rattle.std.specs.Option.{option_map}
 use Rattle.lldp.specs.Views.{peer_as}
@@ -31,7 +31,7 @@ use Rattle.end_laws.specs.both.Small as small
 use Rattle.end_laws.specs.both.Small.{Rules, ToDevice}
 use Rattle.end_laws.specs.both.Steps.{records_of}
 use Rattle.end_laws.specs.controller.Small.{said_by, said_to, says_written, small_of}
-use Rattle.end_laws.specs.device.Small.{IsHeardAs, IsPlanned, heard_as, said_to as device_said}
+use Rattle.end_laws.specs.device.Small.{IsHeardAs, IsPlanned, heard_as, number_in, said_to as device_said}
 use Rattle.end_laws.specs.device.Small as device
 
 -- ---- the start-up of a plan
@@ -40,11 +40,15 @@ use Rattle.end_laws.specs.device.Small as device
 abbrev pub taken_for : PlanRecord → TakenRecord
 taken_for entry = record { slot = entry.slot; subslot = entry.subslot; index = entry.index; value = record { items = entry.data.items } }
 
--- whether a Write with a sequence number and blocks is that of the plan whose number is one less
+-- Whether the blocks of a call are those of the Write of the plan with this number. Its sequence number is larger: by one, if no call was
+-- tried again before.
+abbrev pub is_write : Setup → ℕ → List ℕ → ℕ → Bool
+is_write setup sequence blocks number =
+    nat_lt number (write_count setup.plan) && (pointwise nat_eq blocks (writing_blocks setup number) && nat_lt number sequence)
+
+-- whether a Write with a sequence number and blocks is one of the plan
 abbrev pub is_planned : Setup → ℕ → List ℕ → Bool
-is_planned setup zero blocks = false
-is_planned setup (suc number) blocks =
-    nat_lt number (write_count setup.plan) && pointwise nat_eq blocks (writing_blocks setup number)
+is_planned setup sequence blocks = is_write setup sequence blocks (number_in blocks)
 
 -- the request of the plan's Connect, its Writes and the records of each, whether the blocks of a response say that these were
 -- written, whether the plan goes on after a record that was refused, and what each end hears in octets

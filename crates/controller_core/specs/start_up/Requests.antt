@@ -31,6 +31,12 @@ abbrev pub end_after : Option ℕ → Request
 end_after None = asks.PrmEnd
 end_after (Some tries) = asks.PrmEndAfter tries
 
+-- The request of the first call, before one was refused as busy.
+abbrev pub first_try : Request → Request
+first_try (asks.WriteAfter number tries) = asks.Write number
+first_try (asks.PrmEndAfter tries) = asks.PrmEnd
+first_try request = request
+
 -- How many calls were refused as busy before a request.
 abbrev pub tries_before : Request → ℕ
 tries_before (asks.WriteAfter number tries) = tries

@@ -1,6 +1,7 @@
 -- Both ends of a start-up as small machines: their state, and what they hear of each other, without the data that they
 -- exchange.
 use Rattle.std.specs.Prelude.{ℕ, Bool, List, Option}
+use Rattle.rpc_core.specs.Response.{Answered, is_done}
 
 -- the request of a call: a relation, that the records of the Write with this number are accepted, the end of the
 -- parameters, the end of the relation, or something else while data is exchanged: a record that the application reads or
@@ -19,17 +20,26 @@ pub data ToDevice : Type 0 where
   Confirms : ToDevice
   Idle : ToDevice
 
--- what octets mean to the controller: the response to its call with this sequence number, positive or not;
+-- what a response says: whether its status is positive, and its blocks
+pub record Reply : Type 0 where
+  pub done : Bool
+  pub blocks : List ℕ
+
+-- that of a response
+abbrev pub reply_of : Answered → Reply
+reply_of response = record { done = is_done response.status; blocks = response.blocks }
+
+-- what octets mean to the controller: the response to its call with this sequence number, and what it says;
 -- ApplicationReady; or neither
 pub data ToController : Type 0 where
-  Answers : (sequence : ℕ) → (positive : Bool) → ToController
+  Answers : (sequence : ℕ) → (reply : Reply) → ToController
   Readies : ToController
   Nothing : ToController
 
 -- A start-up: the request of its Connect, the number of its Writes, the records that each of them carries, in order,
--- whether a Write with a sequence number and blocks is one of these, whether the blocks of the response to a call with a
--- sequence number say that each of its records was written, whether it goes on after a record that was refused, and what
--- each end hears in octets.
+-- whether a Write with a sequence number and blocks is one of these, whether the blocks of a positive response to the call of
+-- a stage say that each of its records was written, whether it goes on after a record that was refused, and what each end
+-- hears in octets.
 pub record Rules (T Q : Type 0) : Type 0 where
   pub request : Q
   pub count : ℕ
@@ -64,12 +74,12 @@ pub record Device (T Q : Type 0) : Type 0 where
   pub link : Option (RelationState T Q)
   pub asked : Option ℕ
 
--- A controller: it has not asked for the relation yet; it makes the call with this sequence number, which is 0 for
--- Connect, and one more for each Write and for PrmEnd; it waits for ApplicationReady; it exchanges data; or its
--- relation has ended.
+-- A controller: it has not asked for the relation yet; it makes the call of this stage, which is 0 for Connect, and one more
+-- for each Write and for PrmEnd, after this many calls were refused and tried again: its sequence number is the sum; it
+-- waits for ApplicationReady; it exchanges data; or its relation has ended.
 pub data Controller : Type 0 where
   Seeking : Controller
-  Asking : (sequence : ℕ) → Controller
+  Asking : (stage tries : ℕ) → Controller
   Waiting : Controller
   Exchanges : Controller
   Ended : Controller

@@ -1,8 +1,8 @@
 -- The steps of each end, as far as a start-up is concerned. A step is a relation: what it leaves open, a real machine
 -- decides.
-use Rattle.std.specs.Prelude.{◌≡◌, ◌⊎◌, ◌+◌, ◌<◌, ◌≤◌, ℕ, zero, suc, Bool, true, false, List, [], ◌∷◌, ◌++◌, slice_get, Option, Some, None}
+use Rattle.std.specs.Prelude.{◌≡◌, ◌⊎◌, ◌+◌, ◌<◌, ◌≤◌, ◌&&◌, ℕ, zero, suc, Bool, true, false, List, [], ◌∷◌, ◌++◌, slice_get, Option, Some, None}
 use Rattle.std.specs.List.{AllByRecursion}
-use Rattle.end_laws.specs.both.Small.{Ask, Connects, Writes, Parameterized, Releases, Accesses, ToDevice, Call, Confirms, Idle, ToController, Answers, Readies, Nothing, Rules, Started, Awaiting, Exchanging, RelationState, Kept, Device, Controller, Asking, Waiting, Exchanges, Ended, World, Move, ComesToDevice, ComesToController, AtDevice, AtController}
+use Rattle.end_laws.specs.both.Small.{Ask, Connects, Writes, Parameterized, Releases, Accesses, ToDevice, Call, Confirms, Idle, Reply, ToController, Answers, Readies, Nothing, Rules, Started, Awaiting, Exchanging, RelationState, Kept, Device, Controller, Seeking, Asking, Waiting, Exchanges, Ended, World, Move, ComesToDevice, ComesToController, AtDevice, AtController}
 
 -- ---- the device
 
@@ -13,18 +13,33 @@ IsNew sequence (Some kept) = kept.sequence < sequence
 
 -- ---- the calls of a controller
 
--- the request of a call of the start-up with a sequence number, given the number of Writes
+-- the request of the call of a stage, given the number of Writes
 abbrev pub IsAsked : ℕ → ℕ → Ask → Type 0
-IsAsked count sequence Connects = sequence ≡ 0
-IsAsked count sequence (Writes number) = (number < count) × (sequence ≡ number + 1)
-IsAsked count sequence Parameterized = sequence ≡ count + 1
-IsAsked count sequence Releases = Unit {0}
-IsAsked count sequence Accesses = ⊥
+IsAsked count stage Connects = stage ≡ 0
+IsAsked count stage (Writes number) = (number < count) × (stage ≡ number + 1)
+IsAsked count stage Parameterized = stage ≡ count + 1
+IsAsked count stage Releases = ⊥
+IsAsked count stage Accesses = ⊥
+
+-- the stage of a call, given the number of Writes: a call that is none of the start-up comes after it
+abbrev pub stage_of : ℕ → Ask → ℕ
+stage_of count Connects = 0
+stage_of count (Writes number) = suc number
+stage_of count Parameterized = suc count
+stage_of count ask = suc count
+
+-- the controller makes this call: its sequence number is the stage, and one more for each call that was tried again
+pub record IsCalling (count : ℕ) (now : Controller) (sequence : ℕ) (ask : Ask) : Type 0 where
+  pub stage : ℕ
+  pub tries : ℕ
+  pub calls : now ≡ Asking stage tries
+  pub number : sequence ≡ stage + tries
+  pub asked : IsAsked count stage ask
 
 -- a Release is sent at an end, another call of the start-up as long as the controller makes it, and the calls of the
 -- application and those after a plug while data is exchanged
 abbrev pub CallsWhile : ℕ → Controller → ℕ → Ask → Type 0
-CallsWhile count now sequence ask = (ask ≡ Releases) ⊎ (((now ≡ Asking sequence) × IsAsked count sequence ask) ⊎ ((ask ≡ Accesses) × (now ≡ Exchanges)))
+CallsWhile count now sequence ask = (ask ≡ Releases) ⊎ (IsCalling count now sequence ask ⊎ ((ask ≡ Accesses) × (now ≡ Exchanges)))
 
 -- what the device hears in a frame sent now: a call, the response to ApplicationReady while data is exchanged, or
 -- nothing of a start-up
@@ -33,21 +48,35 @@ SaysToDevice count now (Call sequence ask) = CallsWhile count now sequence ask
 SaysToDevice count now Confirms = now ≡ Exchanges
 SaysToDevice count now Idle = Unit {0}
 
--- a response to the current call, which is positive unless records may be skipped: the controller makes the next call,
--- or after the last one waits for ApplicationReady
-pub record IsNext (skips : Bool) (count : ℕ) (heard : ToController) (before after : Controller) : Type 0 where
-  pub sequence : ℕ
-  pub positive : Bool
-  pub asked : before ≡ Asking sequence
-  pub answered : heard ≡ Answers sequence positive
-  pub granted : (positive ≡ true) ⊎ (skips ≡ true)
-  pub becomes : ((sequence ≤ count) × (after ≡ Asking (sequence + 1))) ⊎ (after ≡ Waiting)
+-- a response to the current call, which says that all went well unless records may be skipped: the controller makes the
+-- call of the next stage, or after the last one waits for ApplicationReady
+pub record IsNext (grants : ℕ → List ℕ → Bool) (skips : Bool) (count : ℕ) (heard : ToController) (before after : Controller) : Type 0 where
+  pub stage : ℕ
+  pub tries : ℕ
+  pub reply : Reply
+  pub asked : before ≡ Asking stage tries
+  pub answered : heard ≡ Answers (stage + tries) reply
+  pub granted : ((reply.done && grants stage reply.blocks) ≡ true) ⊎ (skips ≡ true)
+  pub becomes : ((stage ≤ count) × (after ≡ Asking (stage + 1) tries)) ⊎ (after ≡ Waiting)
 
--- how the state moves: not at all, to the end, to the first call, from call to call, or to the exchange of data with
--- ApplicationReady
-abbrev pub Moves : Bool → ℕ → ToController → Controller → Controller → Type 0
-Moves skips count heard before after =
-    (after ≡ before) ⊎ ((after ≡ Ended) ⊎ ((after ≡ Asking 0) ⊎ (IsNext skips count heard before after ⊎ ((heard ≡ Readies) × (after ≡ Exchanges)))))
+-- a response that refuses the current call, which is no Connect: the controller makes the call again, with the next
+-- sequence number
+pub record IsTried (heard : ToController) (before after : Controller) : Type 0 where
+  pub stage : ℕ
+  pub tries : ℕ
+  pub reply : Reply
+  pub asked : before ≡ Asking stage tries
+  pub later : 0 < stage
+  pub answered : heard ≡ Answers (stage + tries) reply
+  pub refused : reply.done ≡ false
+  pub becomes : after ≡ Asking stage (tries + 1)
+
+-- how the state moves: not at all, to the end, to the first call, from call to call, to the exchange of data with
+-- ApplicationReady, or to the same call again
+abbrev pub Moves : (ℕ → List ℕ → Bool) → Bool → ℕ → ToController → Controller → Controller → Type 0
+Moves grants skips count heard before after =
+    (after ≡ before) ⊎ ((after ≡ Ended) ⊎ (((before ≡ Seeking) × (after ≡ Asking 0 0))
+    ⊎ (IsNext grants skips count heard before after ⊎ (((heard ≡ Readies) × (after ≡ Exchanges)) ⊎ IsTried heard before after))))
 
 -- it stays the same, or it is gone
 abbrev pub IsSameOrNone : {A : Type 0} → Option A → Option A → Type 0
@@ -133,11 +162,17 @@ module _ {T Q : Type 0} where
   Partly rules Parameterized before after = IsParameterized before after
   Partly rules ask before after = Carries rules ask before after
 
-  -- If the response says that all went well, the call had its whole effect. If not, it changed nothing, or it had some of
-  -- its effect: of several records each is accepted or refused by itself.
-  abbrev pub Comes : Rules T Q → Bool → Ask → Option (RelationState T Q) → Option (RelationState T Q) → Type 0
-  Comes rules true ask before after = Carries rules ask before after
-  Comes rules false ask before after = (after ≡ before) ⊎ Partly rules ask before after
+  -- If the response says that all went well, the call had its whole effect. If it is negative, the call changed nothing. If
+  -- it says of a record that it was refused, the call changed nothing, or it had some of its effect: of several records each
+  -- is accepted or refused by itself.
+  abbrev pub ComesAs : Rules T Q → (done granted : Bool) → Ask → Option (RelationState T Q) → Option (RelationState T Q) → Type 0
+  ComesAs rules false granted ask before after = after ≡ before
+  ComesAs rules true true ask before after = Carries rules ask before after
+  ComesAs rules true false ask before after = (after ≡ before) ⊎ Partly rules ask before after
+
+  -- the effect of a call, by what its response says
+  abbrev pub Comes : Rules T Q → Reply → Ask → Option (RelationState T Q) → Option (RelationState T Q) → Type 0
+  Comes rules reply ask before after = ComesAs rules reply.done (rules.grants (stage_of rules.count ask) reply.blocks) ask before after
 
   -- The controller hears this in a frame, or nothing: a frame may go to another station or be too long to be read.
   abbrev pub SaysAtMost : Rules T Q → ToController → List ℕ → Type 0
@@ -159,12 +194,12 @@ module _ {T Q : Type 0} where
   -- for a plug says nothing of a start-up. What is asked of the application stays, or ends with the relation.
   pub record IsAnswered (rules : Rules T Q) (sequence : ℕ) (ask : Ask) (before after : Device T Q) (frames : List (List ℕ)) : Type 0 where
     pub new : IsNew sequence before.kept
-    pub positive : Bool
+    pub reply : Reply
     pub frame : List ℕ
     pub keeps : after.kept ≡ Some (record { sequence = sequence; frame = frame })
-    pub does : Comes rules positive ask before.link after.link
+    pub does : Comes rules reply ask before.link after.link
     pub to_device : rules.to_device frame ≡ Idle
-    pub to_controller : SaysAtMost rules (Answers sequence positive) frame
+    pub to_controller : SaysAtMost rules (Answers sequence reply) frame
     pub others : List (List ℕ)
     pub sent : frames ≡ frame ∷ others
     pub readies : AllByRecursion (λ frame. IsDull rules frame ⊎ IsReady rules after frame) others
@@ -217,12 +252,12 @@ module _ {T Q : Type 0} where
     pub asked : before.asked ≡ Some sequence
     pub settled : after.asked ≡ None
     pub new : IsNew sequence before.kept
-    pub positive : Bool
+    pub reply : Reply
     pub frame : List ℕ
     pub keeps : after.kept ≡ Some (record { sequence = sequence; frame = frame })
     pub link : (after.link ≡ before.link) ⊎ ((after.link ≡ None) ⊎ Forgets before.link after.link)
     pub to_device : rules.to_device frame ≡ Idle
-    pub to_controller : SaysAtMost rules (Answers sequence positive) frame
+    pub to_controller : SaysAtMost rules (Answers sequence reply) frame
     pub others : List (List ℕ)
     pub dull : AllByRecursion (λ frame. IsDull rules frame ⊎ IsReady rules after frame) others
     pub sent : frames ≡ others ++ frame ∷ []
@@ -245,7 +280,7 @@ module _ {T Q : Type 0} where
 
   -- a step of the controller that hears this
   pub record ControllerSteps (rules : Rules T Q) (heard : ToController) (before after : Controller) (frames : List (List ℕ)) : Type 0 where
-    pub moves : Moves rules.skips rules.count heard before after
+    pub moves : Moves rules.grants rules.skips rules.count heard before after
     pub sent : AllByRecursion (IsSaid rules after) frames
 
   -- ---- both

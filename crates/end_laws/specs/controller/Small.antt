@@ -1,9 +1,8 @@
 -- A controller as a small machine, and what it says and hears of a start-up.
-use Rattle.std.specs.Prelude.{◌≡◌, ◌⊎◌, ◌<◌, ◌&&◌, ℕ, zero, suc, Bool, true, nat_eq, nat_lt, List, Option, Some, None, if◌then◌else◌}
+use Rattle.std.specs.Prelude.{◌≡◌, ◌⊎◌, ◌<◌, ℕ, zero, suc, Bool, true, nat_eq, nat_lt, List, Option, Some, None, if◌then◌else◌}
 use Rattle.std.specs.List.{AllByRecursion}
 use Rattle.std.specs.Cmp.Lexicographic.{pointwise}
 use Rattle.connect_blocks.specs.declared.control.ControlBlock.{ControlBlock}
-use Rattle.rpc_core.specs.Response.{Answered as Response, is_done}
 use Rattle.plans.specs.declared.parts.Parts.{Parts}
 use Rattle.controller_messages.specs.declared.setup.Setup.{Setup}
 use Rattle.controller_messages.specs.declared.request.Request.{Request}
@@ -18,18 +17,18 @@ use Rattle.controller_core.specs.declared.stored.event.Event.TheVariants.{Frame,
 use Rattle.controller_core.specs.stored.State.{Live}
 use Rattle.controller_core.specs.start_up.Answers.{is_ready}
 use Rattle.controller_core.specs.start_up.Outcomes.{are_written}
-use Rattle.controller_core.specs.start_up.Requests.{end_after, write_after}
+use Rattle.controller_core.specs.start_up.Requests.{end_after, first_try, tries_before, write_after}
 use Rattle.controller_core.specs.Machine.{Turn}
 use Rattle.controller_core.specs.start_up.Answers.{ready_in}
 use Rattle.end_laws.specs.both.Small as small
-use Rattle.end_laws.specs.both.Small.{Controller, ToController, ToDevice}
+use Rattle.end_laws.specs.both.Small.{Controller, ToController, ToDevice, reply_of}
 use Rattle.end_laws.specs.both.Steps.{Moves, SaysToDevice}
 
 -- ---- its state
 
 -- the controller makes the call of the pending request
 abbrev pub asking_of : Parts → Option Request → Controller
-asking_of plan (Some request) = small.Asking (sequence_of plan request)
+asking_of plan (Some request) = small.Asking (sequence_of plan (first_try request)) (tries_before request)
 asking_of plan None = small.Ended
 
 -- the state of a controller, as a start-up sees it
@@ -76,20 +75,16 @@ abbrev pub readied_by : Setup → Option ControlBlock → ToController
 readied_by setup (Some block) = if is_ready setup block then small.Readies else small.Nothing
 readied_by setup None = small.Nothing
 
--- Whether the blocks of a response to the call with a sequence number say that each record was written: those of the
+-- Whether the blocks of a positive response to the call of a stage say that each record was written: those of the
 -- response to a Write, whose number is one less.
 abbrev pub says_written : Parts → ℕ → List ℕ → Bool
 says_written plan zero blocks = true
 says_written plan (suc number) blocks = if nat_lt number (write_count plan) then are_written plan number blocks else true
 
--- a positive response: its status, and that of each record
-abbrev pub is_positive : Parts → Response → Bool
-is_positive plan response = is_done response.status && says_written plan response.header.sequence response.blocks
-
 -- a response of its activity, and ApplicationReady of its relation; everything else says nothing of a start-up
 abbrev pub said_to : Setup → Heard → ToController
 said_to setup (Responds response) =
-    if pointwise nat_eq response.header.activity setup.activity then small.Answers response.header.sequence (is_positive setup.plan response) else small.Nothing
+    if pointwise nat_eq response.header.activity setup.activity then small.Answers response.header.sequence (reply_of response) else small.Nothing
 said_to setup (Refuses refusal) = small.Nothing
 said_to setup (Calls caller call) = readied_by setup (ready_in call)
 said_to setup Nothing = small.Nothing
@@ -126,7 +121,7 @@ said_by plan (Ends route header reason) = small.Idle
 -- The small step of a turn that hears this: the state moves, and each message says to the device what it may say then.
 pub record GoesOn (plan : Parts) (heard : ToController) (live : Live) (turn : Turn) : Type 0 where
   pub in_step : IsSteady plan turn.live
-  pub moves : Moves plan.continue_on_refused_record (write_count plan) heard (small_of plan live) (small_of plan turn.live)
+  pub moves : Moves (says_written plan) plan.continue_on_refused_record (write_count plan) heard (small_of plan live) (small_of plan turn.live)
   pub says : AllByRecursion (λ message. SaysToDevice (write_count plan) (small_of plan turn.live) (said_by plan message)) turn.sent
 
 -- what an event says, given what is heard of a frame

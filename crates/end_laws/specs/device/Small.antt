@@ -1,5 +1,5 @@
 -- A device as a small machine, and what it says and hears of a start-up.
-use Rattle.std.specs.Prelude.{◌≡◌, ◌+◌, ◌-◌, ◌==◌, ◌&&◌, ◌++◌, ◌∷◌, ℕ, Bool, true, false, nat_eq, List, [], unwrap_or, Option, Some, None, option_map, if◌then◌else◌, Ok}
+use Rattle.std.specs.Prelude.{◌≡◌, ◌+◌, ◌-◌, ◌==◌, ◌&&◌, ◌++◌, ◌∷◌, ℕ, suc, Bool, true, false, nat_eq, List, [], unwrap_or, Option, Some, None, option_map, if◌then◌else◌, Result, Ok, Err}
 use Rattle.std.specs.List.{AllByRecursion}
 use Rattle.std.specs.Cmp.Lexicographic.{pointwise}
 use Rattle.pn_values.specs.declared.identity.Identity.{Identity}
@@ -10,7 +10,9 @@ use Rattle.rpc_core.specs.Response.{Answered as Response, is_done}
 use Rattle.rpc_core.specs.Sendable.{IsStatus}
 use Rattle.rpc_core.specs.declared.response.Status.{Status}
 use Rattle.connect_blocks.specs.declared.control.ControlBlock.{ControlBlock}
-use Rattle.block_codec.specs.Block.{block_of}
+use Rattle.wire.specs.declared.blocks.fault.BlockFault.{BlockFault}
+use Rattle.block_codec.specs.declared.block.Block.{Block}
+use Rattle.block_codec.specs.Block.{block_of, in_iod_write_req}
 use Rattle.records.specs.declared.status.operation.Operation.{Operation}
 use Rattle.records.specs.declared.status.operation.Operation.TheVariants as operation
 use Rattle.records.specs.status.Operation.{operation_of}
@@ -40,7 +42,7 @@ use Rattle.device_core.specs.Asking.{write_within}
 use Rattle.device_core.specs.State.{Live}
 use Rattle.device_core.specs.Several.{Judged, judged_each}
 use Rattle.end_laws.specs.both.Small as small
-use Rattle.end_laws.specs.both.Small.{Rules, ToDevice, ToController}
+use Rattle.end_laws.specs.both.Small.{Rules, ToDevice, ToController, reply_of}
 use Rattle.end_laws.specs.both.Steps.{SaysAtMost}
 
 -- ---- its state
@@ -84,15 +86,27 @@ IsAskedOwn activity state = (question : Question) → question_in state ≡ Some
 abbrev pub Planned : Type 0
 Planned = ℕ → List ℕ → Bool
 
--- a Write of the start-up has a number that is one less than its sequence number
-abbrev pub written_by : Bool → ℕ → ToDevice
-written_by true sequence = small.Call sequence (small.Writes (sequence - 1))
-written_by false sequence = small.Call sequence small.Accesses
+-- the number of a Write of the start-up: SeqNumber of its first block is one more
+abbrev pub number_of_write : Option IodWriteReq → ℕ
+number_of_write (Some write) = write.header.seq_number - 1
+number_of_write None = 0
+
+abbrev pub number_by : Result (Block × List ℕ) BlockFault → ℕ
+number_by (Ok read) = number_of_write (in_iod_write_req read.0)
+number_by (Err fault) = 0
+
+abbrev pub number_in : List ℕ → ℕ
+number_in blocks = number_by (block_of blocks)
+
+-- a Write of the start-up, with a sequence number, has a number of its own
+abbrev pub written_by : Bool → ℕ → ℕ → ToDevice
+written_by true sequence number = small.Call sequence (small.Writes number)
+written_by false sequence number = small.Call sequence small.Accesses
 
 -- the request of a call, by its operation and its blocks
 abbrev pub asked_by : Planned → ℕ → List ℕ → Option Operation → ToDevice
 asked_by planned sequence blocks (Some operation.Connect) = small.Call sequence small.Connects
-asked_by planned sequence blocks (Some operation.Write) = written_by (planned sequence blocks) sequence
+asked_by planned sequence blocks (Some operation.Write) = written_by (planned sequence blocks) sequence (number_in blocks)
 asked_by planned sequence blocks (Some operation.Control) = small.Call sequence small.Parameterized
 asked_by planned sequence blocks (Some operation.Release) = small.Call sequence small.Releases
 asked_by planned sequence blocks (Some operation.Read) = small.Call sequence small.Accesses
@@ -146,21 +160,19 @@ AreDone outcomes = AllByRecursion (λ outcome. is_done outcome.1 ≡ true) outco
 -- what a Write of the start-up with these records asks for: the one record; or each of them, and if the response says that
 -- each was written, each was
 abbrev pub IsWritingOf : Rules TakenRecord Request → List RecordName → Real → Option (List ℕ) → ℕ → List TakenRecord → Writing → Type 0
-IsWritingOf rules named real standing sequence values (One write) = (value : TakenRecord) × (values ≡ value ∷ []) × (write.effect ≡ Keeps value)
-IsWritingOf rules named real standing sequence values (Each header entries) =
+IsWritingOf rules named real standing stage values (One write) = (value : TakenRecord) × (values ≡ value ∷ []) × (write.effect ≡ Keeps value)
+IsWritingOf rules named real standing stage values (Each header entries) =
     AreKeeping (judged_each named standing real entries) values
     × ((outcomes : List (IodWriteReq × Status)) → AreOutcomesOf entries outcomes
-    → rules.grants sequence (answer_of header ++ outcomes_of outcomes) ≡ true → AreDone outcomes)
+    → rules.grants stage (answer_of header ++ outcomes_of outcomes) ≡ true → AreDone outcomes)
 
 -- A call with these blocks is one of the start-up, at a device where these modules are plugged, whose application answers the records
 -- with these names. Its Connect is read as the expected request. Its Writes, if they are accepted, store their records, each one; none
 -- of them is a record of the device's application. The contents of a PrmEnd or a Release are looked at when it arrives, and so are
 -- those of a Read or of another Write, which is a call of the controller's application.
-pub record IsPlannedWrite (rules : Rules TakenRecord Request) (named : List RecordName) (real : Real) (sequence : ℕ) (blocks : List ℕ) : Type 0 where
-  pub number : ℕ
-  pub is : sequence ≡ number + 1
+pub record IsPlannedWrite (rules : Rules TakenRecord Request) (named : List RecordName) (real : Real) (blocks : List ℕ) : Type 0 where
   pub keeps : (standing : Option (List ℕ)) (writing : Writing) → writing_of standing real blocks ≡ Ok writing →
-      IsWritingOf rules named real standing sequence (rules.group number) writing
+      IsWritingOf rules named real standing (suc (number_in blocks)) (rules.group (number_in blocks)) writing
   pub unasked : (standing : Option (List ℕ)) (write : IodWriteReq × List ℕ) → write_within standing blocks ≡ Ok write →
       asked_name real named write.0.header ≡ None
 
@@ -168,7 +180,7 @@ pub record IsPlannedWrite (rules : Rules TakenRecord Request) (named : List Reco
 abbrev pub IsPlannedAs : Rules TakenRecord Request → List RecordName → Real → ℕ → List ℕ → Option Operation → Type 0
 IsPlannedAs rules named real sequence blocks (Some operation.Connect) = request_of None blocks ≡ Ok rules.request
 IsPlannedAs rules named real sequence blocks (Some operation.Write) =
-    rules.is_planned sequence blocks ≡ true → IsPlannedWrite rules named real sequence blocks
+    rules.is_planned sequence blocks ≡ true → IsPlannedWrite rules named real blocks
 IsPlannedAs rules named real sequence blocks (Some operation.Control) = Unit {0}
 IsPlannedAs rules named real sequence blocks (Some operation.Release) = Unit {0}
 IsPlannedAs rules named real sequence blocks (Some operation.Read) = Unit {0}
@@ -195,23 +207,19 @@ IsPlanned rules activity named real other = Unit {0}
 
 -- ---- what it says
 
--- whether a response is positive: its status, and that of each record
-abbrev pub is_positive : Rules TakenRecord Request → Response → Bool
-is_positive rules response = is_done response.status && rules.grants response.header.sequence response.blocks
-
 -- What the controller hears of a message: the response to a call, or ApplicationReady. That of a plug says nothing of a start-up. A
 -- repeated response is not covered here: what it says was said before.
-abbrev pub said_by : Rules TakenRecord Request → Sent → ToController
-said_by rules (CallAnswer caller address answer) = small.Answers answer.header.sequence (is_positive rules answer)
-said_by rules (ReadyCall address ready) = small.Readies
-said_by rules (PlugReadyCall address ready) = small.Nothing
-said_by rules (IdentifyAnswer asker running xid) = small.Nothing
-said_by rules (GetAnswer asker running alias request) = small.Nothing
-said_by rules (SetAnswer asker request answers) = small.Nothing
-said_by rules (ArpReply asker address target) = small.Nothing
-said_by rules (Again frame) = small.Nothing
-said_by rules (Ends farewell) = small.Nothing
-said_by rules (Exchanges route frame) = small.Nothing
+abbrev pub said_by : Sent → ToController
+said_by (CallAnswer caller address answer) = small.Answers answer.header.sequence (reply_of answer)
+said_by (ReadyCall address ready) = small.Readies
+said_by (PlugReadyCall address ready) = small.Nothing
+said_by (IdentifyAnswer asker running xid) = small.Nothing
+said_by (GetAnswer asker running alias request) = small.Nothing
+said_by (SetAnswer asker request answers) = small.Nothing
+said_by (ArpReply asker address target) = small.Nothing
+said_by (Again frame) = small.Nothing
+said_by (Ends farewell) = small.Nothing
+said_by (Exchanges route frame) = small.Nothing
 
 -- both ends hear this in its octets: the device nothing, and the controller what it says, or nothing
 abbrev pub IsHeardBy : Rules TakenRecord Request → List ℕ → ToController → Type 0
@@ -220,7 +228,7 @@ IsHeardBy rules frame says = (rules.to_device frame ≡ small.Idle) × SaysAtMos
 -- both ends hear a message of the device as it is meant
 abbrev pub IsHeardAs : Rules TakenRecord Request → Identity → Sent → Type 0
 IsHeardAs rules identity (Again frame) = Unit {0}
-IsHeardAs rules identity (CallAnswer caller address answer) = IsHeardBy rules (bytes_of identity (CallAnswer caller address answer)) (said_by rules (CallAnswer caller address answer))
+IsHeardAs rules identity (CallAnswer caller address answer) = IsHeardBy rules (bytes_of identity (CallAnswer caller address answer)) (said_by (CallAnswer caller address answer))
 IsHeardAs rules identity (ReadyCall address ready) = IsHeardBy rules (bytes_of identity (ReadyCall address ready)) small.Readies
 IsHeardAs rules identity (PlugReadyCall address ready) = IsHeardBy rules (bytes_of identity (PlugReadyCall address ready)) small.Nothing
 IsHeardAs rules identity (IdentifyAnswer asker running xid) = IsHeardBy rules (bytes_of identity (IdentifyAnswer asker running xid)) small.Nothing
