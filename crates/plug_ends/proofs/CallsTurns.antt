@@ -53,10 +53,11 @@ use Rattle.controller_messages.specs.Heard.{Answers as Comes_back}
 use Rattle.rpc_core.specs.declared.header.CallHeader.{CallHeader}
 use Rattle.controller_core.specs.declared.stored.event.Event.{Event}
 use Rattle.controller_core.specs.declared.stored.event.Event.TheVariants as event
-use Rattle.controller_core.specs.start_up.Answers.{is_call, is_held}
+use Rattle.controller_core.specs.start_up.Answers.{is_call, is_held, is_tried}
+use Rattle.controller_core.specs.start_up.Requests.{end_after}
 use Rattle.controller_messages.specs.PlugRequests.{is_plug_answer, is_plug_ready, plug_answer, plug_ready_in}
 use Rattle.controller_messages.specs.RecordRequests.{most_record_octets}
-use Rattle.controller_messages.specs.Requests.{first_of, sequence_of}
+use Rattle.controller_messages.specs.Requests.{first_of, sequence_of, writing_after, writing_from}
 use Rattle.controller_messages.specs.Sent.{Sent, Requests, Accesses, Parametrizes, Agrees}
 use Rattle.controller_core.specs.declared.start_up.outcomes.Outcomes.{Outcomes}
 use Rattle.controller_core.specs.declared.start_up.outcomes.Outcomes.TheVariants.{AllWritten, Unreadable}
@@ -75,12 +76,12 @@ use Rattle.controller_core.specs.Machine.{behind_data, beside, brought, called, 
 use Rattle.controller_core.specs.Machine.{end_of, exchange_later, flowed, gone_on, is_again, is_end_by, is_end_of, is_exchanging, is_plug_awaited}
 use Rattle.controller_core.specs.Machine.{is_spent, keeping, later, noted, noticed, outputs_of, over, past_record, pending_of, placed, plug_called}
 use Rattle.controller_core.specs.Machine.{plug_finished, plug_passed_by, plug_readied, plug_refused, plug_replied, plugs_by, plugs_of, quit, readied}
-use Rattle.controller_core.specs.Machine.{refused_place, related_by, released, replied, replied_by, requested, requests_of, responded, standing}
+use Rattle.controller_core.specs.Machine.{refused_end, refused_place, refused_write, related_by, released, replied, replied_by, requested, requests_of, responded, standing}
 use Rattle.controller_core.specs.Machine.{stays, step_from, taken, ticked, turn_due, turn_of, turned, undone, where_due, with_end}
 use Rattle.network_world.specs.World.{is_ended}
-use Rattle.end_laws.specs.both.Small.{ToController, Answers}
+use Rattle.end_laws.specs.both.Small.{Reply, ToController, Answers, reply_of}
 use Rattle.end_laws.specs.both.Small.{Nothing as Nothing_said}
-use Rattle.end_laws.specs.controller.Small.{IsInStep, IsSteady, MayWait, is_positive, said_in, said_to}
+use Rattle.end_laws.specs.controller.Small.{IsInStep, IsSteady, MayWait, said_in, said_to}
 use Rattle.end_laws.specs.turns.Beside.{IsBegun, MayBegin, MayFollow}
 
 -- ---- the call that a controller makes
@@ -120,8 +121,8 @@ IsPlain message = Unit {0}
 
 -- what is heard answers it
 pub record IsAnswered (plan : Parts) (heard : ToController) (message : Sent) : Type 0 where
-  pub positive : Bool
-  pub is : heard ≡ Answers (number_in plan message) positive
+  pub reply : Reply
+  pub is : heard ≡ Answers (number_in plan message) reply
 
 -- none waits, or the one that waits needs no answer, or is answered
 abbrev pub IsOver : Parts → ToController → Option Sent → Type 0
@@ -136,15 +137,14 @@ IsAsked after message = (present_of after ≡ Some message) ⊎ IsPlain message
 abbrev pub Waits : (Sent → Type 0) → Live → Type 0
 Waits Said live = (message : Sent) → present_of live ≡ Some message → Said message
 
--- what is true of each call that is sent, and was true of the one that waited, is true of the one that waits
-abbrev pub Goes : (Sent → Type 0) → Parts → ToController → Live → Turn → Type 0
-Goes Said plan heard live turn =
+-- the call is the same, or is over; and what is sent is the call
+abbrev pub Goes : Parts → ToController → Live → Turn → Type 0
+Goes plan heard live turn =
     ((present_of turn.live ≡ present_of live) ⊎ IsOver plan heard (present_of live)) × AllByRecursion (IsAsked turn.live) turn.sent
-    × (Waits Said live → AllByRecursion Said turn.sent → Waits Said turn.live)
 
 -- The controller has ended after a turn; or the call is the same, or is over; and what is sent is the call.
-pub record Turns (Said : Sent → Type 0) (plan : Parts) (heard : ToController) (live : Live) (turn : Turn) : Type 0 where
-  pub so : (is_ended turn.live.phase ≡ true) ⊎ Goes Said plan heard live turn
+pub record Turns (plan : Parts) (heard : ToController) (live : Live) (turn : Turn) : Type 0 where
+  pub so : (is_ended turn.live.phase ≡ true) ⊎ Goes plan heard live turn
 
 -- of the requests beside the exchange at most one waits
 abbrev pub IsAlone : Live → Type 0
@@ -203,14 +203,6 @@ all_more : (P : Sent → Type 0) (one other : List Sent) → AllByRecursion P on
 all_more P [] other first second = second
 all_more P (message ∷ one) other first second = (first.0, all_more P one other first.1 second)
 
-all_back : (P : Sent → Type 0) (one other : List Sent) → AllByRecursion P (one ++ other) → AllByRecursion P other
-all_back P [] other all = all
-all_back P (message ∷ one) other all = all_back P one other all.1
-
-all_front : (P : Sent → Type 0) (one other : List Sent) → AllByRecursion P (one ++ other) → AllByRecursion P one
-all_front P [] other all = tt
-all_front P (message ∷ one) other all = (all.0, all_front P one other all.1)
-
 all_as : (P Q : Sent → Type 0) → ((message : Sent) → P message → Q message) → (sent : List Sent) → AllByRecursion P sent → AllByRecursion Q sent
 all_as P Q to [] all = tt
 all_as P Q to (message ∷ sent) all = (to message all.0, all_as P Q to sent all.1)
@@ -219,11 +211,26 @@ all_as P Q to (message ∷ sent) all = (to message all.0, all_as P Q to sent all
 said_is : (Said : Sent → Type 0) (after : Live) (message : Sent) → present_of after ≡ Some message → Said message → Waits Said after
 said_is Said after message is said other e = subst Said (some_same message other (sym is ∙ e)) said
 
+-- what is true of each message that is sent is true of the one that waits, or no request is sent
+pub sent_waits : (Said : Sent → Type 0) (after : Live) (sent : List Sent) → AllByRecursion (IsAsked after) sent → AllByRecursion Said sent
+    → AllByRecursion IsPlain sent ⊎ Waits Said after
+sent_waits Said after [] asked all = inl tt
+sent_waits Said after (message ∷ sent) asked all = by_first asked.0 (sent_waits Said after sent asked.1 all.1)
+  where
+    by_first : IsAsked after message → AllByRecursion IsPlain sent ⊎ Waits Said after → AllByRecursion IsPlain (message ∷ sent) ⊎ Waits Said after
+    by_first (inl is) rest = inr (said_is Said after message is all.0)
+    by_first (inr plain) (inl rest) = inl (plain, rest)
+    by_first (inr plain) (inr waits) = inr waits
+
+-- what is true of the one that waited is true of the same one
+pub same_waits : (Said : Sent → Type 0) (live after : Live) → present_of after ≡ present_of live → Waits Said live → Waits Said after
+same_waits Said live after same was message e = was message (sym same ∙ e)
+
 -- ---- the parts of the machine
 
-module _ (Said : Sent → Type 0) (setup : Setup) (heard : ToController) (live : Live) (steady : IsSteady setup.plan live) (alone : IsAlone live) where
+module _ (setup : Setup) (heard : ToController) (live : Live) (steady : IsSteady setup.plan live) (alone : IsAlone live) where
   abbrev Does : Turn → Type 0
-  Does turn = Turns Said setup.plan heard live turn
+  Does turn = Turns setup.plan heard live turn
 
   abbrev Over : Type 0
   Over = IsOver setup.plan heard (present_of live)
@@ -232,20 +239,14 @@ module _ (Said : Sent → Type 0) (setup : Setup) (heard : ToController) (live :
   either true one other = one
   either false one other = other
 
-  same_waits : (after : Live) → present_of after ≡ present_of live → Waits Said live → Waits Said after
-  same_waits after same was message e = was message (sym same ∙ e)
-
-  none_waits : (after : Live) → present_of after ≡ None → Waits Said after
-  none_waits after none message e = absurd (none_some message (sym none ∙ e))
-
   keeps : (after : Live) → present_of after ≡ present_of live → Does (stays after)
-  keeps after same = record { so = inr (inl same, tt, λ was all. same_waits after same was) }
+  keeps after same = record { so = inr (inl same, tt) }
 
   rests : Does (stays live)
   rests = keeps live refl
 
-  rests_over : Over → (after : Live) → present_of after ≡ None → Does (stays after)
-  rests_over is after none = record { so = inr (inr is, tt, λ was all. none_waits after none) }
+  rests_over : Over → (after : Live) → Does (stays after)
+  rests_over is after = record { so = inr (inr is, tt) }
 
   ends : (cause : Cause) (next : Live) (sent : List Sent) → Does (record { live = over cause next; sent = sent })
   ends cause next sent = record { so = inl refl }
@@ -254,9 +255,7 @@ module _ (Said : Sent → Type 0) (setup : Setup) (heard : ToController) (live :
   releases cause next = record { so = inl refl }
 
   asks_for : Over → (phase : State) (request : Request) (next : Live) → Does (asking setup phase request next)
-  asks_for is phase request next = record {
-    so = inr (inr is, (inl refl, tt), λ was all. said_is Said (asking setup phase request next).live (Requests next.device request) refl all.0);
-  }
+  asks_for is phase request next = record { so = inr (inr is, (inl refl, tt)) }
 
   quits : (cause : Cause) (next : Live) (phase : State) → present_of next ≡ present_of live → Does (quit setup cause next phase)
   quits cause next Looking same = ends cause next []
@@ -268,41 +267,18 @@ module _ (Said : Sent → Type 0) (setup : Setup) (heard : ToController) (live :
   quits cause next Waiting same = releases cause next
   quits cause next Exchanging same = releases cause next
 
-  -- while a request of the start-up waits, none does beside the exchange
+  -- what waits in each state
   in_phase : (phase : State) → live.phase ≡ phase → IsInStep setup.plan phase live.asked
   in_phase phase e = subst (λ (p : State). IsInStep setup.plan p live.asked) e steady.asked
 
-  abbrev NoneBeside : Type 0
-  NoneBeside = (live.access.plug ≡ None) × (live.access.waiting ≡ None)
-
   beside_in : (phase : State) → live.phase ≡ phase → MayWait phase live.access.plug × MayWait phase live.access.waiting
   beside_in phase e = (subst (λ (p : State). MayWait p live.access.plug) e steady.plug, subst (λ (p : State). MayWait p live.access.waiting) e steady.waiting)
-
-  none_beside : (request : Request) → live.asked ≡ Some request → NoneBeside
-  none_beside request e = by_phase live.phase refl
-    where
-      by_phase : (phase : State) → live.phase ≡ phase → NoneBeside
-      by_phase Looking f = beside_in Looking f
-      by_phase Addressing f = beside_in Addressing f
-      by_phase Connecting f = beside_in Connecting f
-      by_phase Writing f = beside_in Writing f
-      by_phase Ending f = beside_in Ending f
-      by_phase Waiting f = beside_in Waiting f
-      by_phase (Ended cause) f = beside_in (Ended cause) f
-      by_phase Exchanging f = absurd (none_some request (sym (in_phase Exchanging f) ∙ e))
 
   -- ---- responses, one that answers the call that waits
 
   -- neither a request of the start-up waits nor one of the application
   abbrev Quiet : Live → Type 0
   Quiet next = (next.asked ≡ None) × (next.access.waiting ≡ None)
-
-  plugs_wait : (after : Live) → Quiet after → AllByRecursion Said (plugs_of after) → Waits Said after
-  plugs_wait after quiet = by_plug after.access.plug refl
-    where
-      by_plug : (plug : Option PlugRequest) → after.access.plug ≡ plug → AllByRecursion Said (plugs_by after.device plug) → Waits Said after
-      by_plug None e all = none_waits after (none_is after quiet.0 e quiet.1)
-      by_plug (Some request) e all = said_is Said after (Parametrizes after.device request) (plugged_is after request quiet.0 e) all.0
 
   module _ (is : Over) where
     related_turns : (blocks : List ℕ) (found : Option Chosen) → Does (related_by setup (placed setup blocks live) found)
@@ -314,40 +290,49 @@ module _ (Said : Sent → Type 0) (setup : Setup) (heard : ToController) (live :
         (related_turns blocks (chosen_of found))) rests
     connected_turns blocks None = rests
 
-    passed_turns : (number refused_number : ℕ) (status : Code) → Does (past_record setup number (noted status refused_number live))
-    passed_turns number refused_number status =
+    passed_turns : (next : Request) (refused_number : ℕ) (status : Code) → Does (past_record setup next (noted status refused_number live))
+    passed_turns next refused_number status =
         either setup.plan.continue_on_refused_record (asks_for is _ _ (noted status refused_number live))
         (either setup.plan.release_on_refused_record (releases why.Refused (noted status refused_number live))
         (ends why.Refused (noted status refused_number live) []))
 
-    outcomes_turn : (number : ℕ) (outcomes : Outcomes) → Does (after_write setup live number outcomes)
-    outcomes_turn number AllWritten = asks_for is _ _ live
-    outcomes_turn number (Denied place status) = passed_turns number (first_of setup.plan number + place) status
-    outcomes_turn number Unreadable = rests
+    outcomes_turn : (number : ℕ) (next : Request) (outcomes : Outcomes) → Does (after_write setup live number next outcomes)
+    outcomes_turn number next AllWritten = asks_for is _ _ live
+    outcomes_turn number next (Denied place status) = passed_turns next (first_of setup.plan number + place) status
+    outcomes_turn number next Unreadable = rests
 
-    -- the request is answered, and none waits
-    forgotten : (request : Request) → live.asked ≡ Some request → (after : Live) → after.asked ≡ None → after.access ≡ live.access → Does (stays after)
-    forgotten request e after none same =
-        let free = none_beside request e in
-        rests_over is after (none_is after none (ap (λ (a : Accessing). a.plug) same ∙ free.0) (ap (λ (a : Accessing). a.waiting) same ∙ free.1))
+    done_turns : (blocks : List ℕ) (request : Request) → Does (done setup live blocks request)
+    done_turns blocks asks.Identify = rests
+    done_turns blocks asks.Address = rests
+    done_turns blocks asks.Connect = connected_turns blocks (found_in 400 blocks nothing)
+    done_turns blocks (asks.Write number) = outcomes_turn number (writing_from setup.plan (number + 1)) (outcomes_of setup.plan number blocks)
+    done_turns blocks (asks.WriteAfter number tries) =
+        outcomes_turn number (writing_after setup.plan (number + 1) tries) (outcomes_of setup.plan number blocks)
+    done_turns blocks asks.PrmEnd = rests_over is _
+    done_turns blocks (asks.PrmEndAfter tries) = rests_over is _
+    done_turns blocks (asks.Release sequence) = rests_over is _
 
-    done_turns : (blocks : List ℕ) (request : Request) → live.asked ≡ Some request → Does (done setup live blocks request)
-    done_turns blocks asks.Identify e = rests
-    done_turns blocks asks.Address e = rests
-    done_turns blocks asks.Connect e = connected_turns blocks (found_in 400 blocks nothing)
-    done_turns blocks (asks.Write number) e = outcomes_turn number (outcomes_of setup.plan number blocks)
-    done_turns blocks asks.PrmEnd e = forgotten asks.PrmEnd e _ refl refl
-    done_turns blocks (asks.Release sequence) e = forgotten (asks.Release sequence) e _ refl refl
+    -- a call that is refused as busy is over: its next try is another call
+    refused_write_turns : (status : Code) (number tries : ℕ) (next : Request) → Does (refused_write setup live status number tries next)
+    refused_write_turns status number tries next =
+        either (is_tried setup.plan status tries) (rests_over is _) (passed_turns next (first_of setup.plan number) status)
+
+    refused_end_turns : (status : Code) (tries : ℕ) → Does (refused_end setup live status tries)
+    refused_end_turns status tries =
+        either (is_tried setup.plan status tries) (rests_over is _) (ends why.Refused (record live { refusal = Some status }) [])
 
     undone_turns : (status : Code) (request : Request) → Does (undone setup live status request)
-    undone_turns status (asks.Write number) = passed_turns number (first_of setup.plan number) status
+    undone_turns status (asks.Write number) = refused_write_turns status number 0 (writing_from setup.plan (number + 1))
+    undone_turns status (asks.WriteAfter number tries) = refused_write_turns status number tries (writing_after setup.plan (number + 1) tries)
+    undone_turns status asks.PrmEnd = refused_end_turns status 0
+    undone_turns status (asks.PrmEndAfter tries) = refused_end_turns status tries
     undone_turns status asks.Connect =
         let next : Live = record live { refusal = Some status } in either (is_held setup.plan status) (releases why.Refused next) (ends why.Refused next [])
     undone_turns status request = ends why.Refused (record live { refusal = Some status }) []
 
-    decided_turns : (response : Response) (request : Request) → live.asked ≡ Some request → Does (decided setup live response request)
-    decided_turns response (asks.Release sequence) e = forgotten (asks.Release sequence) e _ refl refl
-    decided_turns response request e = either (is_done response.status) (done_turns response.blocks request e) (undone_turns response.status request)
+    decided_turns : (response : Response) (request : Request) → Does (decided setup live response request)
+    decided_turns response (asks.Release sequence) = rests_over is _
+    decided_turns response request = either (is_done response.status) (done_turns response.blocks request) (undone_turns response.status request)
 
     -- the request after a plug is answered
     refused_quiet : (request : PlugRequest) (next : Live) → Quiet next → Quiet (refused_place request next)
@@ -383,30 +368,23 @@ module _ (Said : Sent → Type 0) (setup : Setup) (heard : ToController) (live :
 
     plug_answered : (status : Code) (request : PlugRequest) → Quiet live → Does (asks_next (plug_replied setup live status request))
     plug_answered status request quiet =
-        let now = replied_quiet status request quiet in
-        record {
-          so = inr (inr is, plugs_asked (plug_replied setup live status request) now.0, λ was all. plugs_wait (plug_replied setup live status request) now all);
-        }
+        record { so = inr (inr is, plugs_asked (plug_replied setup live status request) (replied_quiet status request quiet).0) }
 
     -- the request of the application is answered
-    module _ (none : live.asked ≡ None) (unplugged_now : live.access.plug ≡ None) where
-      finished : (after : Live) → after.asked ≡ live.asked → after.access.plug ≡ live.access.plug → after.access.waiting ≡ None → Does (stays after)
-      finished after same plug_same free = rests_over is after (none_is after (same ∙ none) (plug_same ∙ unplugged_now) free)
+    brings_turns : (request : RecordRequest) (octets : Option (List ℕ)) → Does (stays (brings request octets live))
+    brings_turns request (Some octets) = rests_over is _
+    brings_turns request None = rests
 
-      brings_turns : (request : RecordRequest) (octets : Option (List ℕ)) → Does (stays (brings request octets live))
-      brings_turns request (Some octets) = finished _ refl refl refl
-      brings_turns request None = rests
+    granted_turns : (request : RecordRequest) (blocks : List ℕ) (kind : RecordService) → Does (stays (granted request blocks kind live))
+    granted_turns request blocks service.Read = brings_turns request (record_in (block_of blocks))
+    granted_turns request blocks service.Write = rests_over is _
 
-      granted_turns : (request : RecordRequest) (blocks : List ℕ) (kind : RecordService) → Does (stays (granted request blocks kind live))
-      granted_turns request blocks service.Read = brings_turns request (record_in (block_of blocks))
-      granted_turns request blocks service.Write = finished _ refl refl refl
-
-      replied_turns : (response : Response) (request : RecordRequest) → Does (stays (replied_by live response request))
-      replied_turns response request = by_test (is_done response.status)
-        where
-          by_test : (b : Bool) → Does (stays (if b then granted request response.blocks request.service live else failed response.status request live))
-          by_test true = granted_turns request response.blocks request.service
-          by_test false = finished _ refl refl refl
+    replied_turns : (response : Response) (request : RecordRequest) → Does (stays (replied_by live response request))
+    replied_turns response request = by_test (is_done response.status)
+      where
+        by_test : (b : Bool) → Does (stays (if b then granted request response.blocks request.service live else failed response.status request live))
+        by_test true = granted_turns request response.blocks request.service
+        by_test false = rests_over is _
 
   -- ---- a turn of a place may begin after another one
 
@@ -451,16 +429,10 @@ module _ (Said : Sent → Type 0) (setup : Setup) (heard : ToController) (live :
             over_now (inl same) = subst (λ (message : Option Sent). IsOver setup.plan heard message) (sym none_before ∙ same) tt
             over_now (inr is) = is
 
-            by_so : (is_ended turn.live.phase ≡ true) ⊎ Goes Said setup.plan heard live turn
-                → (is_ended after.live.phase ≡ true) ⊎ Goes Said setup.plan heard live after
+            by_so : (is_ended turn.live.phase ≡ true) ⊎ Goes setup.plan heard live turn
+                → (is_ended after.live.phase ≡ true) ⊎ Goes setup.plan heard live after
             by_so (inl ended) = absurd (false_true (ap (λ (phase : State). is_ended phase) (sym begun.phase) ∙ ended))
-            by_so (inr goes) = inr (
-              inr (over_now goes.0),
-              sent_all goes.1,
-              λ was all. said_is Said after.live (Parametrizes turn.live.device begun.request) now
-                  (all_back Said turn.sent (Parametrizes turn.live.device begun.request ∷ [])
-                  (subst (λ (sent : List Sent). AllByRecursion Said sent) sent_is all)).0,
-            )
+            by_so (inr goes) = inr (inr (over_now goes.0), sent_all goes.1)
 
         by_follow : MayFollow setup turn after → Does after
         by_follow (inl same) = subst (λ (t : Turn). Does t) (sym same) does
@@ -471,6 +443,10 @@ module _ (Said : Sent → Type 0) (setup : Setup) (heard : ToController) (live :
     module _ (due_so : (is_due : Bool) (next : Live) → MayBegin setup next (turn_due setup is_due next)) where
       uncounted : (request : Request) → live.asked ≡ Some request → IsUncounted (Requests live.device request) → Over
       uncounted request e is = subst (λ (message : Option Sent). IsOver setup.plan heard message) (sym (requested_is live request e)) (inl is)
+
+      end_uncounted : (tries : Option ℕ) → live.asked ≡ Some (end_after tries) → Over
+      end_uncounted None e = uncounted asks.PrmEnd e tt
+      end_uncounted (Some tries) e = uncounted (asks.PrmEndAfter tries) e tt
 
       none_over : present_of live ≡ None → Over
       none_over e = subst (λ (message : Option Sent). IsOver setup.plan heard message) (sym e) tt
@@ -489,23 +465,12 @@ module _ (Said : Sent → Type 0) (setup : Setup) (heard : ToController) (live :
       answered_turns source answer phase e = rests
 
       readied_turns : (caller : Caller) (call : Call) (block : ControlBlock) (phase : State) → live.phase ≡ phase → Does (readied live caller call block phase)
-      readied_turns caller call block Ending e = record {
-        so = inr (
-          inr (uncounted asks.PrmEnd (in_phase Ending e) tt),
-          (inr tt, tt),
-          λ was all. none_waits (readied live caller call block Ending).live
-              (none_is (readied live caller call block Ending).live refl (beside_in Ending e).0 (beside_in Ending e).1),
-        );
-      }
+      readied_turns caller call block Ending e =
+          record { so = inr (inr (end_uncounted (in_phase Ending e).0 (in_phase Ending e).1), (inr tt, tt)) }
       readied_turns caller call block Waiting e = record {
-        so = inr (
-          inr (none_over (none_is live (in_phase Waiting e) (beside_in Waiting e).0 (beside_in Waiting e).1)),
-          (inr tt, tt),
-          λ was all. none_waits (readied live caller call block Waiting).live
-              (none_is (readied live caller call block Waiting).live refl (beside_in Waiting e).0 (beside_in Waiting e).1),
-        );
+        so = inr (inr (none_over (none_is live (in_phase Waiting e) (beside_in Waiting e).0 (beside_in Waiting e).1)), (inr tt, tt));
       }
-      readied_turns caller call block Exchanging e = record { so = inr (inl refl, (inr tt, tt), λ was all. was) }
+      readied_turns caller call block Exchanging e = record { so = inr (inl refl, (inr tt, tt)) }
       readied_turns caller call block phase e = rests
 
       -- the place is ready, and the end of its parameters needs no answer
@@ -551,13 +516,13 @@ module _ (Said : Sent → Type 0) (setup : Setup) (heard : ToController) (live :
         where
           by_place : (present_of (plug_readied live block.alarm_sequence_number) ≡ present_of live)
               ⊎ (Over × (present_of (plug_readied live block.alarm_sequence_number) ≡ None))
-              → Goes Said setup.plan heard live (record {
+              → Goes setup.plan heard live (record {
                 live = plug_readied live block.alarm_sequence_number;
                 sent = Agrees caller
                     (plug_answer call block) ∷ [];
               })
-          by_place (inl same) = (inl same, (inr tt, tt), λ was all. same_waits (plug_readied live block.alarm_sequence_number) same was)
-          by_place (inr over_now) = (inr over_now.0, (inr tt, tt), λ was all. none_waits (plug_readied live block.alarm_sequence_number) over_now.1)
+          by_place (inl same) = (inl same, (inr tt, tt))
+          by_place (inr over_now) = (inr over_now.0, (inr tt, tt))
       plug_turns caller call None = rests
 
       -- alarms
@@ -576,9 +541,9 @@ module _ (Said : Sent → Type 0) (setup : Setup) (heard : ToController) (live :
           let now : present_of after ≡ present_of live =
           kept_same (acking before report.priority (ack_of report.notification)) report.priority (kept_alarm report.notification) report.user_structure
           ∙ (end_same before report.priority _ ∙ same) in
-          record { so = inr (inl now, (inr tt, (inr tt, tt)), λ was all. same_waits after now was) }
-      taken_turns before same report Again = record { so = inr (inl same, (inr tt, tt), λ was all. same_waits before same was) }
-      taken_turns before same report Refused = record { so = inr (inl same, (inr tt, tt), λ was all. same_waits before same was) }
+          record { so = inr (inl now, (inr tt, (inr tt, tt))) }
+      taken_turns before same report Again = record { so = inr (inl same, (inr tt, tt)) }
+      taken_turns before same report Refused = record { so = inr (inl same, (inr tt, tt)) }
 
       noticed_turns : (under : Priority) (reported : AlarmReported) → Does (noticed live under reported)
       noticed_turns under (notice.Data number report) =
@@ -642,24 +607,6 @@ module _ (Said : Sent → Type 0) (setup : Setup) (heard : ToController) (live :
           (all_more P _ _ (all_if P is_low (acks_of after Low) (acks_plain after Low (end_of after Low).confirming))
           (all_more P _ _ (all_if P is_request (pending_of after) (pending_asked after)) (all_if P is_cyclic (outputs_of after) (inr tt, tt))))
 
-      -- the request after a plug that waits is sent, if a request is due
-      due_said : (after : Live) (is_high is_low is_cyclic : Bool) (request : PlugRequest) → after.asked ≡ None → after.access.plug ≡ Some request
-          → AllByRecursion Said (due_frames after is_high is_low true is_cyclic) → Waits Said after
-      due_said after is_high is_low is_cyclic request none e all =
-          said_is Said after (Parametrizes after.device request) (plugged_is after request none e) (first_of_pending (
-          all_front Said (pending_of after) (where_due is_cyclic (outputs_of after))
-          (all_back Said (where_due is_low (acks_of after Low)) (pending_of after ++ where_due is_cyclic (outputs_of after))
-          (all_back Said (where_due is_high (acks_of after High)) (where_due is_low (acks_of after Low) ++
-          (pending_of after ++ where_due is_cyclic (outputs_of after))) all))))
-        where
-          pending_is : pending_of after ≡ Parametrizes after.device request ∷ []
-          pending_is =
-              ap (λ (asked : Option Request). pending_by after asked) none
-              ∙ ap (λ (plug : Option PlugRequest). if is_some plug then plugs_by after.device plug else accesses_of after) e
-
-          first_of_pending : AllByRecursion Said (pending_of after) → Said (Parametrizes after.device request)
-          first_of_pending those = (subst (λ (sent : List Sent). AllByRecursion Said sent) pending_is those).0
-
       -- the unit, after which a turn of a place has begun, or not
       module _ (next : Live) where
         abbrev flow_turn : Bool → Bool → Option Abort → Turn
@@ -669,22 +616,8 @@ module _ (Said : Sent → Type 0) (setup : Setup) (heard : ToController) (live :
 
         kept_unit : (again b : Bool) (ending : Option Abort) → present_of next ≡ present_of live → Does (flow_turn again b ending)
         kept_unit again true (Some reason) same = record { so = inl refl }
-        kept_unit again true None same = record {
-          so = inr (
-            inl same,
-            due_asked (exchange_later next) _ _ _ _,
-            λ was all. same_waits
-                (exchange_later next) same was,
-          );
-        }
-        kept_unit again false ending same = record {
-          so = inr (
-            inl same,
-            all_if (IsAsked next) again _
-                (requests_asked next next.asked refl),
-            λ was all. same_waits next same was,
-          );
-        }
+        kept_unit again true None same = record { so = inr (inl same, due_asked (exchange_later next) _ _ _ _) }
+        kept_unit again false ending same = record { so = inr (inl same, all_if (IsAsked next) again _ (requests_asked next next.asked refl)) }
 
         begun_unit : (b : Bool) (ending : Option Abort) → next.stands ≡ b → IsSteady setup.plan (flow_turn true b ending).live
             → IsBegun setup (later live) next → Does (flow_turn true b ending)
@@ -693,9 +626,6 @@ module _ (Said : Sent → Type 0) (setup : Setup) (heard : ToController) (live :
           so = inr (
             inr (none_over (none_is live none begun.plug begun.waiting)),
             due_asked (exchange_later next) (is_repeated (due next.alarms.sending)) (is_repeated (due next.low_alarms.sending)) true (brought next).is_cyclic,
-            λ was all. due_said (exchange_later next) (is_repeated (due next.alarms.sending)) (is_repeated (due next.low_alarms.sending))
-                (brought next).is_cyclic begun.request none_after
-                (ap (λ (a : Accessing). a.plug) begun.access) all,
           );
         }
           where
@@ -764,14 +694,7 @@ module _ (Said : Sent → Type 0) (setup : Setup) (heard : ToController) (live :
               let free = free_none live.access.waiting live.access.plug parts.1 in
               let now : present_of (accessing request octets live).live ≡ Some (Accesses live.device request octets) =
               waiting_is (accessing request octets live).live request none free.1 refl in
-              record {
-                so = inr (
-                  inr (none_over (none_is live none free.1 free.0)),
-                  (inl now, tt),
-                  λ was all. said_is Said (accessing request octets live).live
-                      (Accesses live.device request octets) now all.0,
-                );
-              }
+              record { so = inr (inr (none_over (none_is live none free.1 free.0)), (inl now, tt)) }
 
       -- ---- any event
 
@@ -780,9 +703,9 @@ module _ (Said : Sent → Type 0) (setup : Setup) (heard : ToController) (live :
           → pointwise nat_eq response.header.activity setup.activity ≡ true → (response.header.sequence == number_in setup.plan message) ≡ true → Over
       answers_it message response heard_is waits own same =
           subst (λ (m : Option Sent). IsOver setup.plan heard m) (sym waits) (inr (record {
-            positive = is_positive setup.plan response;
-            is = heard_is ∙ (ap (λ (b : Bool). if b then Answers response.header.sequence (is_positive setup.plan response) else Nothing_said) own
-                ∙ ap (λ (number : ℕ). Answers number (is_positive setup.plan response)) (eqb-true _ _ same));
+            reply = reply_of response;
+            is = heard_is ∙ (ap (λ (b : Bool). if b then Answers response.header.sequence (reply_of response) else Nothing_said) own
+                ∙ ap (λ (number : ℕ). Answers number (reply_of response)) (eqb-true _ _ same));
           }))
 
       answer_parts : (request : Request) (header : CallHeader) → is_answer setup request header ≡ true
@@ -814,7 +737,7 @@ module _ (Said : Sent → Type 0) (setup : Setup) (heard : ToController) (live :
               by_test true g =
                   let parts = both_of (pointwise nat_eq response.header.activity setup.activity) (response.header.sequence == request.sequence) g in
                   replied_turns (answers_it (Accesses live.device request live.access.octets) response heard_is
-                  (waiting_is live request none e f) parts.0 parts.1) none e response request
+                  (waiting_is live request none e f) parts.0 parts.1) response request
 
       responded_all : (response : Response) → heard ≡ said_to setup (Responds response) → (asked : Option Request) → live.asked ≡ asked
           → Does (responded setup live response asked)
@@ -825,7 +748,7 @@ module _ (Said : Sent → Type 0) (setup : Setup) (heard : ToController) (live :
           by_test false f = rests
           by_test true f =
               let parts = answer_parts request response.header f in
-              decided_turns (answers_it (Requests live.device request) response heard_is (requested_is live request e) parts.0 parts.1) response request e
+              decided_turns (answers_it (Requests live.device request) response heard_is (requested_is live request e) parts.0 parts.1) response request
 
       heard_turns : (what : Heard) → heard ≡ said_to setup what → ((refusal : Refusal) → what ≡ Refuses refusal → ⊥)
           → IsSteady setup.plan (turned setup live what).live
