@@ -8,3 +8,4 @@ pub mod Belongs
 pub mod Again
 pub mod Inputs
 pub mod Causes
+pub mod Tries

@@ -2,7 +2,7 @@
 -- the relation.
 use Rattle.std.proofs.Common.{◌≡◌, ◌⊎◌, inl, inr, ◌≤◌, ◌<◌, ◌++◌, ℕ, Bool, true, List, [], ◌∷◌, Option, Some, None, sym, ap, subst, ◌∙◌, arith}
 use Rattle.std.specs.List.{AllByRecursion}
-use Rattle.end_laws.specs.both.Small.{Answers, Ask, Call, Confirms, Device, Idle, Kept, Nothing, Parameterized, Readies, Releases, Rules, ToDevice}
+use Rattle.end_laws.specs.both.Small.{Answers, Ask, Call, Confirms, Device, Idle, Kept, Nothing, Parameterized, Readies, Releases, Reply, Rules, ToDevice}
 use Rattle.end_laws.specs.both.Steps.{DeviceSteps, GoesBy, IsAgain, IsConfirmed, IsDull, IsNew, IsReady, SaysAtMost}
 
 -- ---- the last response
@@ -39,13 +39,13 @@ grows_covers before after (inr more) sequence covers = subst (λ (k : Option Kep
 pub idle_call : (sequence : ℕ) (ask : Ask) → Idle ≡ Call sequence ask → ⊥
 idle_call sequence ask e = absurd cc
 
-pub nothing_answers : (sequence : ℕ) (positive : Bool) → Nothing ≡ Answers sequence positive → ⊥
-nothing_answers sequence positive e = absurd cc
+pub nothing_answers : (sequence : ℕ) (reply : Reply) → Nothing ≡ Answers sequence reply → ⊥
+nothing_answers sequence reply e = absurd cc
 
-pub readies_answers : (sequence : ℕ) (positive : Bool) → Readies ≡ Answers sequence positive → ⊥
-readies_answers sequence positive e = absurd cc
+pub readies_answers : (sequence : ℕ) (reply : Reply) → Readies ≡ Answers sequence reply → ⊥
+readies_answers sequence reply e = absurd cc
 
-pub answers_same : (one other : ℕ) (first second : Bool) → Answers one first ≡ Answers other second → one ≡ other
+pub answers_same : (one other : ℕ) (first second : Reply) → Answers one first ≡ Answers other second → one ≡ other
 answers_same one other first second e = cc
 
 some_kept : (one other : Kept) → Some one ≡ Some other → one ≡ other
@@ -64,7 +64,7 @@ module _ {T Q : Type 0} (rules : Rules T Q) where
   pub record IsFrame (kept : Option Kept) (last : Option (List ℕ)) (ended : Bool) (frame : List ℕ) : Type 0 where
     pub calls : (sequence : ℕ) (ask : Ask) → rules.to_device frame ≡ Call sequence ask → IsNew sequence kept
         → (ask ≡ Parameterized) ⊎ ((last ≡ Some frame) ⊎ ((ask ≡ Releases) × (ended ≡ true)))
-    pub answers : (sequence : ℕ) (positive : Bool) → rules.to_controller frame ≡ Answers sequence positive → Covers sequence kept
+    pub answers : (sequence : ℕ) (reply : Reply) → rules.to_controller frame ≡ Answers sequence reply → Covers sequence kept
 
   pub record Holds (kept : Option Kept) (last : Option (List ℕ)) (ended : Bool) (sent : List (List ℕ)) : Type 0 where
     pub frames : AllByRecursion (IsFrame kept last ended) sent
@@ -76,38 +76,38 @@ module _ {T Q : Type 0} (rules : Rules T Q) where
     stays_frame : (before after : Option Kept) → Grows before after → (frame : List ℕ) → IsFrame before last ended frame → IsFrame after last ended frame
     stays_frame before after grows frame is = record {
       calls = λ sequence ask e is_new. is.calls sequence ask e (grows_new before after grows sequence is_new);
-      answers = λ sequence positive e. grows_covers before after grows sequence (is.answers sequence positive e);
+      answers = λ sequence reply e. grows_covers before after grows sequence (is.answers sequence reply e);
     }
 
     dull_frame : (kept : Option Kept) (frame : List ℕ) → IsDull rules frame → IsFrame kept last ended frame
     dull_frame kept frame dull = record {
       calls = λ sequence ask e is_new. absurd (idle_call sequence ask (sym dull.0 ∙ e));
-      answers = λ sequence positive e. absurd (nothing_answers sequence positive (sym dull.1 ∙ e));
+      answers = λ sequence reply e. absurd (nothing_answers sequence reply (sym dull.1 ∙ e));
     }
 
     ready_frame : (kept : Option Kept) (after : Device T Q) (frame : List ℕ) → IsReady rules after frame → IsFrame kept last ended frame
     ready_frame kept after frame ready = record {
       calls = λ sequence ask e is_new. absurd (idle_call sequence ask (sym ready.to_device ∙ e));
-      answers = λ sequence positive e. absurd (by_most ready.to_controller sequence positive e);
+      answers = λ sequence reply e. absurd (by_most ready.to_controller sequence reply e);
     }
       where
-        by_most : SaysAtMost rules Readies frame → (sequence : ℕ) (positive : Bool) → rules.to_controller frame ≡ Answers sequence positive → ⊥
-        by_most (inl none) sequence positive e = nothing_answers sequence positive (sym none ∙ e)
-        by_most (inr ready_said) sequence positive e = readies_answers sequence positive (sym ready_said ∙ e)
+        by_most : SaysAtMost rules Readies frame → (sequence : ℕ) (reply : Reply) → rules.to_controller frame ≡ Answers sequence reply → ⊥
+        by_most (inl none) sequence reply e = nothing_answers sequence reply (sym none ∙ e)
+        by_most (inr ready_said) sequence reply e = readies_answers sequence reply (sym ready_said ∙ e)
 
-    answer_frame : (kept : Option Kept) (frame : List ℕ) (number : ℕ) (granted : Bool) → rules.to_device frame ≡ Idle
+    answer_frame : (kept : Option Kept) (frame : List ℕ) (number : ℕ) (granted : Reply) → rules.to_device frame ≡ Idle
         → SaysAtMost rules (Answers number granted) frame
         → Covers number kept → IsFrame kept last ended frame
     answer_frame kept frame number granted idle at_most covers = record {
       calls = λ sequence ask e is_new. absurd (idle_call sequence ask (sym idle ∙ e));
-      answers = λ sequence positive e. by_most at_most sequence positive e;
+      answers = λ sequence reply e. by_most at_most sequence reply e;
     }
       where
-        by_most : SaysAtMost rules (Answers number granted) frame → (sequence : ℕ) (positive : Bool) → rules.to_controller frame ≡ Answers sequence positive
+        by_most : SaysAtMost rules (Answers number granted) frame → (sequence : ℕ) (reply : Reply) → rules.to_controller frame ≡ Answers sequence reply
             → Covers sequence kept
-        by_most (inl none) sequence positive e = absurd (nothing_answers sequence positive (sym none ∙ e))
-        by_most (inr said) sequence positive e =
-            subst (λ (n : ℕ). Covers n kept) (answers_same number sequence granted positive (sym said ∙ e)) covers
+        by_most (inl none) sequence reply e = absurd (nothing_answers sequence reply (sym none ∙ e))
+        by_most (inr said) sequence reply e =
+            subst (λ (n : ℕ). Covers n kept) (answers_same number sequence granted reply (sym said ∙ e)) covers
 
     other_frame : (kept : Option Kept) (after : Device T Q) (frame : List ℕ) → IsDull rules frame ⊎ IsReady rules after frame → IsFrame kept last ended frame
     other_frame kept after frame (inl dull) = dull_frame kept frame dull
@@ -138,15 +138,15 @@ module _ {T Q : Type 0} (rules : Rules T Q) where
           (same_again before.kept after.kept sent same holds)
 
       -- the response to a call is stored, and sent between other messages
-      stored : (sequence : ℕ) (positive : Bool) (frame : List ℕ) (first others : List (List ℕ)) → IsNew sequence before.kept
+      stored : (sequence : ℕ) (reply : Reply) (frame : List ℕ) (first others : List (List ℕ)) → IsNew sequence before.kept
           → after.kept ≡ Some (record { sequence = sequence; frame = frame }) → rules.to_device frame ≡ Idle
-          → SaysAtMost rules (Answers sequence positive) frame
+          → SaysAtMost rules (Answers sequence reply) frame
           → AllByRecursion (λ f. IsDull rules f ⊎ IsReady rules after f) first → AllByRecursion (λ f. IsDull rules f ⊎ IsReady rules after f) others
           → frames ≡ first ++ frame ∷ others → After
-      stored sequence positive frame first others is_new keeps idle at_most front back is =
+      stored sequence reply frame first others is_new keeps idle at_most front back is =
           let P = IsFrame after.kept last ended in
           let same : sequence ≤ sequence = omega arith in
-          let now : P frame = answer_frame after.kept frame sequence positive idle at_most (subst (λ (k : Option Kept). Covers sequence k) (sym keeps) same) in
+          let now : P frame = answer_frame after.kept frame sequence reply idle at_most (subst (λ (k : Option Kept). Covers sequence k) (sym keeps) same) in
           goes before.kept after.kept sent frames (inr (record { sequence = sequence; frame = frame }, keeps, is_new)) holds
           (subst (λ (fs : List (List ℕ)). AllByRecursion P fs) (sym is)
           (all_after P first (frame ∷ others) (all_to (λ f. IsDull rules f ⊎ IsReady rules after f) P (other_frame after.kept after) first front)
@@ -176,7 +176,7 @@ module _ {T Q : Type 0} (rules : Rules T Q) where
           (same_again before.kept after.kept sent same holds)
 
       pub device_holds : (heard : ToDevice) → DeviceSteps rules heard before after frames → After
-      device_holds (Call sequence ask) (inl it) = stored sequence it.positive it.frame [] it.others it.new it.keeps it.to_device it.to_controller tt
+      device_holds (Call sequence ask) (inl it) = stored sequence it.reply it.frame [] it.others it.new it.keeps it.to_device it.to_controller tt
           it.readies it.sent
       device_holds (Call sequence ask) (inr (inl it)) = again_sent sequence it
       device_holds (Call sequence ask) (inr (inr (inl it))) = silent (ap (λ (d : Device T Q). d.kept) it.0) it.1
@@ -184,7 +184,7 @@ module _ {T Q : Type 0} (rules : Rules T Q) where
       device_holds Confirms (inl it) = confirmed it
       device_holds Confirms (inr it) = goes_by it
       device_holds Idle (inl it) = goes_by it
-      device_holds Idle (inr it) = stored it.sequence it.positive it.frame it.others [] it.new it.keeps it.to_device it.to_controller it.dull tt it.sent
+      device_holds Idle (inr it) = stored it.sequence it.reply it.frame it.others [] it.new it.keeps it.to_device it.to_controller it.dull tt it.sent
 
   -- ---- the controller
 
@@ -220,7 +220,7 @@ module _ {T Q : Type 0} (rules : Rules T Q) where
     said_frame : (frame : List ℕ) → IsSaidNow now over frame → IsFrame kept now over frame
     said_frame frame said = record {
       calls = λ sequence ask e is_new. inr (said.calls sequence ask e);
-      answers = λ sequence positive e. absurd (nothing_answers sequence positive (sym said.nothing ∙ e));
+      answers = λ sequence reply e. absurd (nothing_answers sequence reply (sym said.nothing ∙ e));
     }
 
     pub controller_holds : (sent frames : List (List ℕ)) → Holds kept last ended sent → AllByRecursion (IsSaidNow now over) frames

@@ -35,7 +35,7 @@ use Rattle.controller_core.specs.Machine.{Turn, after_turn, first as first_live,
 use Rattle.network_world.specs.World.{is_ended}
 use Rattle.end_laws.specs.hearing.Hearing.{IsUncalled, IsUnreported, comes}
 use Rattle.end_laws.specs.both.Small as small
-use Rattle.end_laws.specs.both.Small.{Ask, Rules, ToController, ToDevice}
+use Rattle.end_laws.specs.both.Small.{Ask, Reply, Rules, ToController, ToDevice}
 use Rattle.end_laws.specs.both.Steps.{CallsWhile, DeviceSteps, SaysToDevice}
 use Rattle.end_laws.specs.controller.Small.{GoesOn, IsSteady, asked_by, said_by, said_in, said_to, small_of}
 use Rattle.end_laws.specs.device.Orderly.{IsOrderlyIn}
@@ -47,7 +47,7 @@ use Rattle.end_laws.specs.turns.Runs.{IsReached, behind_all}
 use Rattle.end_laws.specs.turns.Turns.{IsTurn, came_by}
 use Rattle.both_ends.specs.startup.View.{IsSaidAs, is_planned, rules_of, says_to_device}
 use Rattle.plug_ends.proofs.CallsTurns.{Goes, IsAlone, IsAsked, IsOver, IsPlain, IsUncounted, IsUnrefused, Waits, event_turns, false_true, none_some}
-use Rattle.plug_ends.proofs.CallsTurns.{number_in, present_of, some_same}
+use Rattle.plug_ends.proofs.CallsTurns.{number_in, present_of, same_waits, sent_waits, some_same}
 use Rattle.plug_ends.proofs.CallsFrames.{Covers, Holds, IsSaidNow, IsSettled, controller_holds, covers_old}
 use Rattle.plug_ends.proofs.CallsAlone.{event_alone}
 
@@ -111,14 +111,14 @@ confirms_no_call : (sequence : ℕ) (ask : Ask) → small.Confirms ≡ small.Cal
 confirms_no_call sequence ask e = absurd cc
 
 -- a call has its number, whatever it asks
-written_number : (b : Bool) (number sequence : ℕ) (ask : Ask) → written_by b number ≡ small.Call sequence ask → sequence ≡ number
-written_number true number sequence ask e = call_number_same _ _ _ _ (sym e)
-written_number false number sequence ask e = call_number_same _ _ _ _ (sym e)
+written_number : (b : Bool) (number write sequence : ℕ) (ask : Ask) → written_by b number write ≡ small.Call sequence ask → sequence ≡ number
+written_number true number write sequence ask e = call_number_same _ _ _ _ (sym e)
+written_number false number write sequence ask e = call_number_same _ _ _ _ (sym e)
 
 asked_number : (planned : Planned) (number : ℕ) (blocks : List ℕ) (which : Option Operation) (sequence : ℕ) (ask : Ask)
     → device.asked_by planned number blocks which ≡ small.Call sequence ask → sequence ≡ number
 asked_number planned number blocks (Some operation.Connect) sequence ask e = call_number_same _ _ _ _ (sym e)
-asked_number planned number blocks (Some operation.Write) sequence ask e = written_number (planned number blocks) number sequence ask e
+asked_number planned number blocks (Some operation.Write) sequence ask e = written_number (planned number blocks) number _ sequence ask e
 asked_number planned number blocks (Some operation.Control) sequence ask e = call_number_same _ _ _ _ (sym e)
 asked_number planned number blocks (Some operation.Release) sequence ask e = call_number_same _ _ _ _ (sym e)
 asked_number planned number blocks (Some operation.Read) sequence ask e = call_number_same _ _ _ _ (sym e)
@@ -187,10 +187,10 @@ module _ (setup : Setup) where
   -- after its end the controller calls to end the relation only
   releases_alone : (sequence : ℕ) (ask : Ask) → CallsWhile (write_count setup.plan) small.Ended sequence ask → ask ≡ small.Releases
   releases_alone sequence ask (inl releases) = releases
-  releases_alone sequence ask (inr (inl asked)) = absurd (ended_asks sequence asked.0)
+  releases_alone sequence ask (inr (inl calling)) = absurd (ended_asks calling.stage calling.tries calling.calls)
     where
-      ended_asks : (n : ℕ) → small.Ended ≡ small.Asking n → ⊥
-      ended_asks n e = absurd cc
+      ended_asks : (stage tries : ℕ) → small.Ended ≡ small.Asking stage tries → ⊥
+      ended_asks stage tries e = absurd cc
   releases_alone sequence ask (inr (inr accesses)) = absurd (ended_exchanges accesses.1)
     where
       ended_exchanges : small.Ended ≡ small.Exchanges → ⊥
@@ -236,29 +236,37 @@ module _ (setup : Setup) where
       calls = λ sequence ask e. inr (ended_said message both.1 sequence ask (heard_said message both.0 sequence ask e), is_over);
     }
 
+    plain_now : (last : Option (List ℕ)) (over : Bool) (message : Sent) → IsSaidAs setup station message × IsPlain message
+        → IsSaidNow rules last over (bytes_of setup message)
+    plain_now last over message both = record {
+      nothing = both.0.0;
+      calls = λ sequence ask e. absurd
+          (plain_said message both.1 sequence ask (heard_said message both.0 sequence ask e));
+    }
+
     asked_now : (after : ControllerLive) (over : Bool) (message : Sent) → IsSaidAs setup station message × IsAsked after message
         → IsSaidNow rules (option_map (bytes_of setup) (present_of after)) over (bytes_of setup message)
     asked_now after over message both = by_asked both.1
       where
         by_asked : IsAsked after message → IsSaidNow rules (option_map (bytes_of setup) (present_of after)) over (bytes_of setup message)
         by_asked (inl is) = record { nothing = both.0.0; calls = λ sequence ask e. inl (ap (λ (m : Option Sent). option_map (bytes_of setup) m) is) }
-        by_asked (inr plain) = record {
-          nothing = both.0.0;
-          calls = λ sequence ask e. absurd
-              (plain_said message plain sequence ask (heard_said message both.0 sequence ask e));
-        }
+        by_asked (inr plain) = plain_now (option_map (bytes_of setup) (present_of after)) over message (both.0, plain)
 
 -- ---- both ends
 
 abbrev pub kept_for : Setup → Live → Option small.Kept
 kept_for setup live = (device.small_of setup.activity live).kept
 
--- The last call of the controller: while it has not ended it is the one that waits.
+-- The last call of the controller is the one that waits, and its octets say what it is; or it is over, and no call was sent since: a call that is
+-- refused as busy is tried again with the end of the second.
+abbrev pub IsTied : Controlling → Station → Option (List ℕ) → Type 0
+IsTied c station last = (last ≡ None) ⊎ ((last ≡ option_map (bytes_of c.setup) (present_of c.live)) × Waits (IsSaidAs c.setup station) c.live)
+
+-- The last call of the controller: while it has not ended it is the one that waits, or it is over.
 pub record Held (c : Controlling) (station : Station) (live : Live) (sent : List (List ℕ)) : Type 0 where
   pub last : Option (List ℕ)
   pub holds : Holds (rules_of c.setup station) (kept_for c.setup live) last (is_ended c.live.phase) sent
-  pub tie : is_ended c.live.phase ≡ false → last ≡ option_map (bytes_of c.setup) (present_of c.live)
-  pub said : is_ended c.live.phase ≡ false → Waits (IsSaidAs c.setup station) c.live
+  pub tie : is_ended c.live.phase ≡ false → IsTied c station last
   pub steady : IsSteady c.setup.plan c.live
   pub alone : IsAlone c.live
   pub reached : IsReached c
@@ -312,7 +320,7 @@ module _ (so : CallsSo) where
 
   module _ (c : Controlling) (station : Station) (live : Live) (sent : List (List ℕ)) (held : Held c station live sent) (one : Event)
       (meant : AllByRecursion (IsSaidAs c.setup station) (turn_of c.setup c.live one).sent)
-      (answers : (number : ℕ) (positive : Bool) → said_in c.setup (heard_by c.setup.plan.controller) one ≡ small.Answers number positive
+      (answers : (number : ℕ) (reply : Reply) → said_in c.setup (heard_by c.setup.plan.controller) one ≡ small.Answers number reply
       → Covers number (kept_for c.setup live))
       (unrefused : IsUnrefused c.setup one) where
     abbrev setup_is : Setup
@@ -340,13 +348,11 @@ module _ (so : CallsSo) where
     kept = kept_for c.setup live
 
     make : (last : Option (List ℕ)) → Holds (rules_of c.setup station) kept last (is_ended turn.live.phase) (sent ++ frames)
-        → (is_ended turn.live.phase ≡ false → last ≡ option_map (bytes_of c.setup) (present_of turn.live))
-        → (is_ended turn.live.phase ≡ false → Waits (IsSaidAs c.setup station) turn.live) → Held after station live (sent ++ frames)
-    make last holds tie said = record {
+        → (is_ended turn.live.phase ≡ false → IsTied after station last) → Held after station live (sent ++ frames)
+    make last holds tie = record {
       last = last;
       holds = holds;
       tie = tie;
-      said = said;
       steady = on.in_step;
       alone = event_alone c.setup (so.follows c.setup) (so.flows c.setup) c.live one (so.kinds c.setup c.live one) held.alone;
       reached = reached_after;
@@ -369,7 +375,7 @@ module _ (so : CallsSo) where
         (all_both (IsSaidAs c.setup station) (λ m. MaySay c.setup (said_by c.setup.plan m)) turn.sent meant
         (subst (λ (now : small.Controller). AllByRecursion (λ m. SaysToDevice (write_count c.setup.plan) now (said_by c.setup.plan m)) turn.sent)
         (small_ended c.setup.plan turn.live is_over) on.says))))
-        (λ e. absurd (not_both _ is_over e)) (λ e. absurd (not_both _ is_over e))
+        (λ e. absurd (not_both _ is_over e))
 
     -- the same call waits, or it is over
     module _ (going : is_ended c.live.phase ≡ false) where
@@ -378,11 +384,15 @@ module _ (so : CallsSo) where
       some_frame None frame e = absurd (none_some frame e)
       some_frame (Some m) frame e = (m, refl, some_same _ _ e)
 
-      over_settled : (frame : List ℕ) → held.last ≡ Some frame → IsOver c.setup.plan heard (present_of c.live) → IsSettled (rules_of c.setup station) kept frame
-      over_settled frame is_last over sequence ask e is_new =
-          let found = some_frame (present_of c.live) frame (sym (held.tie going) ∙ is_last) in
+      abbrev IsCall : Type 0
+      IsCall = (held.last ≡ option_map (bytes_of c.setup) (present_of c.live)) × Waits (IsSaidAs c.setup station) c.live
+
+      over_settled : IsCall → (frame : List ℕ) → held.last ≡ Some frame → IsOver c.setup.plan heard (present_of c.live)
+          → IsSettled (rules_of c.setup station) kept frame
+      over_settled tied frame is_last over sequence ask e is_new =
+          let found = some_frame (present_of c.live) frame (sym tied.0 ∙ is_last) in
           let m = found.0 in
-          let says = heard_said c.setup station m (held.said going m found.1) sequence ask
+          let says = heard_said c.setup station m (tied.1 m found.1) sequence ask
           (ap (λ (f : List ℕ). (rules_of c.setup station).to_device f) found.2 ∙ e) in
           by_over m says (subst (λ (message : Option Sent). IsOver c.setup.plan heard message) found.1 over)
         where
@@ -391,33 +401,75 @@ module _ (so : CallsSo) where
           by_over m says (inr answered) =
               absurd (covers_old sequence kept
               (subst (λ (n : ℕ). Covers n kept) (sym (number_said c.setup m sequence ask says))
-              (answers (number_in c.setup.plan m) answered.positive answered.is)) is_new)
+              (answers (number_in c.setup.plan m) answered.reply answered.is)) is_new)
 
-      goes_held : Goes (IsSaidAs c.setup station) c.setup.plan heard c.live turn → Held after station live (sent ++ frames)
-      goes_held goes =
-          let now = option_map (bytes_of c.setup) (present_of turn.live) in
-          make now
-          (controller_holds (rules_of c.setup station) kept held.last now (is_ended c.live.phase) (is_ended turn.live.phase)
-          (λ e. absurd (not_both _ e going)) follows sent frames held.holds
-          (all_map (λ m. IsSaidAs c.setup station m × IsAsked turn.live m) (IsSaidNow (rules_of c.setup station) now (is_ended turn.live.phase))
-          (bytes_of c.setup)
-          (asked_now c.setup station turn.live (is_ended turn.live.phase)) turn.sent
-          (all_both (IsSaidAs c.setup station) (IsAsked turn.live) turn.sent meant goes.1)))
-          (λ e. refl) (λ e. goes.2 (held.said going) meant)
+      abbrev LeadsTo : Option (List ℕ) → Type 0
+      LeadsTo last = (frame : List ℕ) → held.last ≡ Some frame → (last ≡ Some frame) ⊎ IsSettled (rules_of c.setup station) kept frame
+
+      with_last : (last : Option (List ℕ)) → LeadsTo last
+          → AllByRecursion (IsSaidNow (rules_of c.setup station) last (is_ended turn.live.phase)) frames
+          → (is_ended turn.live.phase ≡ false → IsTied after station last) → Held after station live (sent ++ frames)
+      with_last last leads says tie =
+          make last
+          (controller_holds (rules_of c.setup station) kept held.last last (is_ended c.live.phase) (is_ended turn.live.phase)
+          (λ e. absurd (not_both _ e going)) leads sent frames held.holds says) tie
+
+      abbrev now : Option (List ℕ)
+      now = option_map (bytes_of c.setup) (present_of turn.live)
+
+      -- no request is sent
+      plain_says : (last : Option (List ℕ)) → AllByRecursion IsPlain turn.sent
+          → AllByRecursion (IsSaidNow (rules_of c.setup station) last (is_ended turn.live.phase)) frames
+      plain_says last plain =
+          all_map (λ m. IsSaidAs c.setup station m × IsPlain m) (IsSaidNow (rules_of c.setup station) last (is_ended turn.live.phase)) (bytes_of c.setup)
+          (plain_now c.setup station last (is_ended turn.live.phase)) turn.sent (all_both (IsSaidAs c.setup station) IsPlain turn.sent meant plain)
+
+      unsent : held.last ≡ None → LeadsTo None
+      unsent none frame is_last = absurd (none_some frame (sym none ∙ is_last))
+
+      call_over : IsCall → IsOver c.setup.plan heard (present_of c.live) → LeadsTo None
+      call_over tied over frame is_last = inr (over_settled tied frame is_last over)
+
+      call_same : IsCall → present_of turn.live ≡ present_of c.live → LeadsTo now
+      call_same tied same frame is_last = inl (ap (λ (m : Option Sent). option_map (bytes_of c.setup) m) same ∙ (sym tied.0 ∙ is_last))
+
+      goes_held : Goes c.setup.plan heard c.live turn → Held after station live (sent ++ frames)
+      goes_held goes = by_sent (sent_waits (IsSaidAs c.setup station) turn.live turn.sent goes.1 meant)
         where
-          follows : (frame : List ℕ) → held.last ≡ Some frame
-              → (option_map (bytes_of c.setup) (present_of turn.live) ≡ Some frame) ⊎ IsSettled (rules_of c.setup station) kept frame
-          follows frame is_last = by_goes goes.0
+          abbrev Tied : Type 0
+          Tied = IsTied c station held.last
+
+          leads : Tied → LeadsTo now
+          leads (inl none) frame is_last = absurd (none_some frame (sym none ∙ is_last))
+          leads (inr tied) frame is_last = by_goes goes.0
             where
               by_goes : (present_of turn.live ≡ present_of c.live) ⊎ IsOver c.setup.plan heard (present_of c.live)
-                  → (option_map (bytes_of c.setup) (present_of turn.live) ≡ Some frame) ⊎ IsSettled (rules_of c.setup station) kept frame
-              by_goes (inl same) = inl (ap (λ (m : Option Sent). option_map (bytes_of c.setup) m) same ∙ (sym (held.tie going) ∙ is_last))
-              by_goes (inr over) = inr (over_settled frame is_last over)
+                  → (now ≡ Some frame) ⊎ IsSettled (rules_of c.setup station) kept frame
+              by_goes (inl same) = call_same tied same frame is_last
+              by_goes (inr over) = inr (over_settled tied frame is_last over)
+
+          by_plain : AllByRecursion IsPlain turn.sent → Tied → (present_of turn.live ≡ present_of c.live) ⊎ IsOver c.setup.plan heard (present_of c.live)
+              → Held after station live (sent ++ frames)
+          by_plain plain (inl none) same = with_last None (unsent none) (plain_says None plain) (λ e. inl refl)
+          by_plain plain (inr tied) (inl same) =
+              with_last now (call_same tied same) (plain_says now plain)
+              (λ e. inr (refl, same_waits (IsSaidAs c.setup station) c.live turn.live same tied.1))
+          by_plain plain (inr tied) (inr over) = with_last None (call_over tied over) (plain_says None plain) (λ e. inl refl)
+
+          by_sent : AllByRecursion IsPlain turn.sent ⊎ Waits (IsSaidAs c.setup station) turn.live → Held after station live (sent ++ frames)
+          by_sent (inl plain) = by_plain plain (held.tie going) goes.0
+          by_sent (inr waits) =
+              with_last now (leads (held.tie going))
+              (all_map (λ m. IsSaidAs c.setup station m × IsAsked turn.live m) (IsSaidNow (rules_of c.setup station) now (is_ended turn.live.phase))
+              (bytes_of c.setup)
+              (asked_now c.setup station turn.live (is_ended turn.live.phase)) turn.sent
+              (all_both (IsSaidAs c.setup station) (IsAsked turn.live) turn.sent meant goes.1))
+              (λ e. inr (refl, waits))
 
     pub controller_held : Held after station live (sent ++ frames)
     controller_held = by_ended (is_ended c.live.phase) refl
       where
-        by_so : is_ended c.live.phase ≡ false → (is_ended turn.live.phase ≡ true) ⊎ Goes (IsSaidAs c.setup station) c.setup.plan heard c.live turn
+        by_so : is_ended c.live.phase ≡ false → (is_ended turn.live.phase ≡ true) ⊎ Goes c.setup.plan heard c.live turn
             → Held after station live (sent ++ frames)
         by_so going (inl is_over) = over_held is_over
         by_so going (inr goes) = goes_held going goes
@@ -425,5 +477,5 @@ module _ (so : CallsSo) where
         by_ended : (b : Bool) → is_ended c.live.phase ≡ b → Held after station live (sent ++ frames)
         by_ended true e = over_held (ended_on c one held.reached e)
         by_ended false e =
-            by_so e (event_turns (IsSaidAs c.setup station) c.setup heard c.live held.steady held.alone (so.follows c.setup)
+            by_so e (event_turns c.setup heard c.live held.steady held.alone (so.follows c.setup)
             (so.due_so c.setup) one refl unrefused on.in_step).so

@@ -41,9 +41,9 @@ use Rattle.network_world.specs.World.{at_controller, AtDevice, Comes, Delivers, 
 use Rattle.end_laws.specs.hearing.Hearing.{IsUncalled, IsUnreported}
 use Rattle.end_laws.specs.hearing.Stations.{IsSetup}
 use Rattle.end_laws.specs.both.Small as small
-use Rattle.end_laws.specs.both.Small.{Ask, Rules, ToController, ToDevice}
+use Rattle.end_laws.specs.both.Small.{Ask, Reply, Rules, ToController, ToDevice, reply_of}
 use Rattle.end_laws.specs.both.Steps.{IsNew}
-use Rattle.end_laws.specs.controller.Small.{IsSteady, is_positive, said_in, said_to}
+use Rattle.end_laws.specs.controller.Small.{IsSteady, said_in, said_to}
 use Rattle.end_laws.specs.device.Orderly.{IsOrderlyIn}
 use Rattle.end_laws.specs.device.Small.{IsAskedOwn, IsPlanned, IsPlannedAs, IsPlannedCall, heard_as, kept_in, written_by}
 use Rattle.end_laws.specs.device.Small as device
@@ -53,7 +53,7 @@ use Rattle.plug_ends.specs.Calls.{IsUnrefused as IsUnrefusedAt}
 use Rattle.plug_ends.specs.Calls.{EndsParameters, EndsRelation, HasAnswered, IsNewCall, IsPresent, WasSent}
 use Rattle.plug_ends.proofs.CallsTurns.{IsUnrefused, false_true, none_some, present_by, present_of, some_same}
 use Rattle.plug_ends.proofs.CallsFrames.{Covers, IsFrame, device_holds}
-use Rattle.plug_ends.proofs.CallsRuns.{CallsSo, Held, all_at, controller_held, controller_is, kept_for}
+use Rattle.plug_ends.proofs.CallsRuns.{CallsSo, Held, IsTied, all_at, controller_held, controller_is, kept_for}
 
 same_octets : (xs : List ℕ) → pointwise nat_eq xs xs ≡ true
 same_octets [] = refl
@@ -164,7 +164,6 @@ module _ (so : CallsSo) {F : Type 0} where
               (device.small_of c.setup.activity step.live) before.sent step.frames held.holds
               (heard_as (is_planned c.setup) heard) steps;
           tie = held.tie;
-          said = held.said;
           steady = held.steady;
           alone = held.alone;
           reached = held.reached;
@@ -180,8 +179,8 @@ module _ (so : CallsSo) {F : Type 0} where
     -- ---- a step of the controller
 
     steps_held : (one : Event) → IsMeantAtController before one
-        → ((number : ℕ) (positive : Bool) → said_in before.controller.setup
-        (heard_by before.controller.setup.plan.controller) one ≡ small.Answers number positive
+        → ((number : ℕ) (reply : Reply) → said_in before.controller.setup
+        (heard_by before.controller.setup.plan.controller) one ≡ small.Answers number reply
         → Covers number (kept_for before.controller.setup before.device.live))
         → IsUnrefused before.controller.setup one → after ≡ at_controller before one → HeldAt after
     steps_held one meant answers unrefused happens =
@@ -195,11 +194,11 @@ module _ (so : CallsSo) {F : Type 0} where
         (subst (λ (next : Controlling). Held next station live (before.sent ++ (step_of c one).frames)) (sym (controller_is c one))
         (subst (λ (fs : List (List ℕ)). Held (with_live c turn.live) station live (before.sent ++ fs)) (sym (so.frames_are c one)) now))
 
-    nothing_said : (number : ℕ) (positive : Bool) → small.Nothing ≡ small.Answers number positive
+    nothing_said : (number : ℕ) (reply : Reply) → small.Nothing ≡ small.Answers number reply
         → Covers number (kept_for before.controller.setup before.device.live)
-    nothing_said number positive e = absurd (no_answer e)
+    nothing_said number reply e = absurd (no_answer e)
       where
-        no_answer : small.Nothing ≡ small.Answers number positive → ⊥
+        no_answer : small.Nothing ≡ small.Answers number reply → ⊥
         no_answer f = absurd cc
 
     -- ---- a move
@@ -281,8 +280,8 @@ module _ (so : CallsSo) {F : Type 0} where
     unkept = ap (λ (answer : Option Answer). option_map kept_in answer) (ap (λ (s : Setup). kept_of s.activity first.device.live.rest.calls) begins.of_setup
         ∙ begins.uncalled)
 
-    no_answer : (sequence : ℕ) (positive : Bool) → small.Nothing ≡ small.Answers sequence positive → ⊥
-    no_answer sequence positive e = absurd cc
+    no_answer : (sequence : ℕ) (reply : Reply) → small.Nothing ≡ small.Answers sequence reply → ⊥
+    no_answer sequence reply e = absurd cc
 
     pub first_held : HeldAt first
     first_held = record {
@@ -292,16 +291,18 @@ module _ (so : CallsSo) {F : Type 0} where
             (option_map (bytes_of c.setup) (present_of c.live)) (is_ended c.live.phase)) fs) (sym sent_is) (
               record {
                 calls = λ sequence ask e is_new. inr (inl (ap (λ (m : Option Sent). option_map (bytes_of c.setup) m) present_is));
-                answers = λ sequence positive e. absurd (no_answer sequence positive (sym (opening_said so c.setup station c.live.device good_here).0 ∙ e));
+                answers = λ sequence reply e. absurd (no_answer sequence reply (sym (opening_said so c.setup station c.live.device good_here).0 ∙ e));
               },
               tt,
             );
         again = λ answer e. absurd (none_some answer (sym unkept ∙ e));
       };
-      tie = λ e. refl;
-      said = λ e message waits.
-          subst (λ (m : Sent). IsSaidAs c.setup station m) (some_same (Requests c.live.device asks.Identify) message (sym present_is ∙ waits))
-          (opening_said so c.setup station c.live.device good_here);
+      tie = λ e. inr (
+        refl,
+        λ message waits.
+            subst (λ (m : Sent). IsSaidAs c.setup station m) (some_same (Requests c.live.device asks.Identify) message (sym present_is ∙ waits))
+            (opening_said so c.setup station c.live.device good_here),
+      );
       steady = subst (λ (l : ControllerLive). IsSteady c.setup.plan l) (sym live_is) (so.begins c.setup);
       alone = inl (subst (λ (l : ControllerLive). l.access.plug ≡ None) (sym live_is) refl);
       reached = record {
@@ -391,7 +392,11 @@ module _ (so : CallsSo) {F : Type 0} where
         by_new : EndsParameters call.call ⊎ ((held.last ≡ Some frame) ⊎ (EndsRelation call.call × (is_ended w.controller.live.phase ≡ true)))
             → EndsParameters call.call ⊎ IsPresent w frame
         by_new (inl parameters) = inl parameters
-        by_new (inr (inl is_last)) = inr (by_present (present_of w.controller.live) refl (sym (held.tie going) ∙ is_last))
+        by_new (inr (inl is_last)) = inr (by_tie (held.tie going))
+          where
+            by_tie : IsTied w.controller w.device.station held.last → IsPresent w frame
+            by_tie (inl none) = absurd (none_some frame (sym none ∙ is_last))
+            by_tie (inr tied) = by_present (present_of w.controller.live) refl (sym tied.0 ∙ is_last)
         by_new (inr (inr ended)) = absurd (not_both _ ended.1 going)
 
     pub one_so : (one other : List ℕ) → WasSent w one → WasSent w other → (first_call : IsNewCall w one) (second_call : IsNewCall w other)
@@ -416,9 +421,9 @@ module _ (so : CallsSo) {F : Type 0} where
         → HasAnswered w.controller.setup.activity response.header.sequence w.device.live.rest.calls
     answered_so frame sent response e own =
         by_kept (kept_of w.controller.setup.activity w.device.live.rest.calls) refl
-        ((all_at _ w.sent held.holds.frames sent.number frame sent.is).answers response.header.sequence (is_positive w.controller.setup.plan response)
+        ((all_at _ w.sent held.holds.frames sent.number frame sent.is).answers response.header.sequence (reply_of response)
         (ap (λ (heard : ControllerHeard). said_to w.controller.setup heard) e
-        ∙ ap (λ (b : Bool). if b then small.Answers response.header.sequence (is_positive w.controller.setup.plan response) else small.Nothing)
+        ∙ ap (λ (b : Bool). if b then small.Answers response.header.sequence (reply_of response) else small.Nothing)
         (subst (λ (activity : List ℕ). pointwise nat_eq response.header.activity activity ≡ true) own (same_octets response.header.activity))))
       where
         by_kept : (kept : Option Answer) → kept_of w.controller.setup.activity w.device.live.rest.calls ≡ kept

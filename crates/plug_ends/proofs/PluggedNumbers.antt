@@ -3,6 +3,7 @@ use Rattle.std.proofs.Common.{◌≡◌, ◌⊎◌, inl, inr, ◌+◌, ◌%◌, 
 use Rattle.std.specs.Prelude.{if◌then◌else◌}
 use Rattle.pn_alarms.specs.Receiver.{taken_as}
 use Rattle.controller_messages.specs.declared.plug_request.PlugRequest.{PlugRequest}
+use Rattle.controller_messages.specs.declared.request.Request.{Request}
 use Rattle.controller_messages.specs.declared.record_request.RecordRequest.{RecordRequest}
 use Rattle.controller_messages.specs.declared.setup.Setup.{Setup}
 use Rattle.controller_messages.specs.Access.{Accessing, call_number, unplugged}
@@ -47,6 +48,17 @@ pub record IsAccessMade (setup : Setup) (before after : Accessing) : Type 0 wher
 
 abbrev pub Numbers : Setup → Accessing → Accessing → Type 0
 Numbers setup before after = NoneIsMade before after ⊎ (IsPlugMade setup before after ⊎ IsAccessMade setup before after)
+
+-- A call of the start-up was refused as busy: its next try, which waits from now on, is counted, and no request beside the exchange is made.
+pub record IsTryMade (before after : Live) : Type 0 where
+  pub request : Request
+  pub asked : after.asked ≡ Some request
+  pub calls : after.access.calls ≡ (before.access.calls + 1) % 4294967296
+  pub plug : after.access.plug ≡ before.access.plug
+  pub waiting : after.access.waiting ≡ before.access.waiting
+
+abbrev pub Counts : Setup → Live → Live → Type 0
+Counts setup before after = Numbers setup before.access after.access ⊎ IsTryMade before after
 
 same_none : (before after : Accessing) → after ≡ before → NoneIsMade before after
 same_none before after same = record {
@@ -114,49 +126,52 @@ module _ (setup : Setup) (follows : (could : Bool) (turn : Turn) → MayFollow s
   same : (live : Live) → Same live
   same live = inl (record { calls = refl; plug = inl refl; waiting = inl refl })
 
-  kind_numbers : (live : Live) (came : Came) (kind : Kind) → IsKind setup live came kind → is_ended (turn_by setup live kind).live.phase ≡ false
-      → Numbers setup live.access (turn_by setup live kind).live.access
-  kind_numbers live came kinds.Rests holds going = same live
-  kind_numbers live came (kinds.Connects source) holds going = same live
-  kind_numbers live came (kinds.Addresses source) holds going = same live
-  kind_numbers live came (kinds.Ends cause refusal refused units) holds going = absurd (true_false going)
-  kind_numbers live came (kinds.Releases cause refusal refused units) holds going = absurd (true_false going)
-  kind_numbers live came (kinds.Relates places chosen) holds going = same live
-  kind_numbers live came (kinds.Writes number) holds going = same live
-  kind_numbers live came (kinds.Skips number refused status) holds going = same live
-  kind_numbers live came kinds.Waits holds going = same live
-  kind_numbers live came kinds.Forgets holds going = same live
-  kind_numbers live came (kinds.Begins caller call block) holds going = same live
-  kind_numbers live came (kinds.Repeats caller call block) holds going = same live
-  kind_numbers live came (kinds.Follows source frame_id body) holds going = same live
-  kind_numbers live came (kinds.Takes number report) holds going =
-      let turn = taken (behind_data live report.priority number) report (taken_as (end_of live report.priority).seen number) in
+  -- a call that is refused as busy is the only one of the start-up that is counted
+  kind_counts : (live : Live) (came : Came) (kind : Kind) → IsKind setup live came kind → is_ended (turn_by setup live kind).live.phase ≡ false
+      → Counts setup live (turn_by setup live kind).live
+  kind_counts live came (kinds.Tries next status) holds going =
+      inr (record { request = next; asked = refl; calls = refl; plug = refl; waiting = refl })
+  kind_counts live came kinds.Rests holds going = inl (same live)
+  kind_counts live came (kinds.Connects source) holds going = inl (same live)
+  kind_counts live came (kinds.Addresses source) holds going = inl (same live)
+  kind_counts live came (kinds.Ends cause refusal refused units) holds going = absurd (true_false going)
+  kind_counts live came (kinds.Releases cause refusal refused units) holds going = absurd (true_false going)
+  kind_counts live came (kinds.Relates places chosen) holds going = inl (same live)
+  kind_counts live came (kinds.Writes number tries) holds going = inl (same live)
+  kind_counts live came (kinds.Skips number tries refused status) holds going = inl (same live)
+  kind_counts live came (kinds.Waits tries) holds going = inl (same live)
+  kind_counts live came kinds.Forgets holds going = inl (same live)
+  kind_counts live came (kinds.Begins caller call block) holds going = inl (same live)
+  kind_counts live came (kinds.Repeats caller call block) holds going = inl (same live)
+  kind_counts live came (kinds.Follows source frame_id body) holds going = inl (same live)
+  kind_counts live came (kinds.Takes number report) holds going =
+      inl (let turn = taken (behind_data live report.priority number) report (taken_as (end_of live report.priority).seen number) in
       followed_none live.access (can_begin live) turn
       (same_none live.access turn.live.access
-      (taken_access (behind_data live report.priority number) report (taken_as (end_of live report.priority).seen number) ∙ end_access live report.priority _))
-  kind_numbers live came (kinds.IsAcked priority number) holds going =
-      inl (same_none live.access (behind_ack live priority number).access (end_access live priority _))
-  kind_numbers live came (kinds.Gives slot subslot value) holds going = same live
-  kind_numbers live came (kinds.GivesStatus slot subslot is_good) holds going = same live
-  kind_numbers live came (kinds.Asks request octets) holds going =
-      inr (inr (record { request = request; sequence = holds.2; waiting = refl; calls = refl; plug = inl refl; none = holds.4 }))
-  kind_numbers live came (kinds.IsReplied refusal access) holds going =
-      followed_none live.access (can_begin live) (stays (record live { refusal = refusal; access = access }))
-      (record { calls = holds.2; plug = inr holds.6; waiting = inr holds.1 })
-  kind_numbers live came (kinds.IsPlugAnswered refusal refused waited places access) holds going =
-      stepped_numbers live access
-      (asks_next (record live { refusal = refusal; refused_record = refused; waited = waited; places = places; access = access })) refl holds.3
-  kind_numbers live came (kinds.IsPlugReadied caller call block) holds going =
-      followed_none live.access (can_begin live)
+      (taken_access (behind_data live report.priority number) report (taken_as (end_of live report.priority).seen number) ∙ end_access live report.priority _)))
+  kind_counts live came (kinds.IsAcked priority number) holds going =
+      inl (inl (same_none live.access (behind_ack live priority number).access (end_access live priority _)))
+  kind_counts live came (kinds.Gives slot subslot value) holds going = inl (same live)
+  kind_counts live came (kinds.GivesStatus slot subslot is_good) holds going = inl (same live)
+  kind_counts live came (kinds.Asks request octets) holds going =
+      inl (inr (inr (record { request = request; sequence = holds.2; waiting = refl; calls = refl; plug = inl refl; none = holds.4 })))
+  kind_counts live came (kinds.IsReplied refusal access) holds going =
+      inl (followed_none live.access (can_begin live) (stays (record live { refusal = refusal; access = access }))
+      (record { calls = holds.2; plug = inr holds.6; waiting = inr holds.1 }))
+  kind_counts live came (kinds.IsPlugAnswered refusal refused waited places access) holds going =
+      inl (stepped_numbers live access
+      (asks_next (record live { refusal = refusal; refused_record = refused; waited = waited; places = places; access = access })) refl holds.3)
+  kind_counts live came (kinds.IsPlugReadied caller call block) holds going =
+      inl (followed_none live.access (can_begin live)
       (record { live = plug_readied live block.alarm_sequence_number; sent = Agrees caller (plug_answer call block) ∷ [] })
-      (unplugged_if (is_end_of block.alarm_sequence_number live.access.plug) live.access)
-  kind_numbers live came kinds.Flows holds going = flow_numbers live
-  kind_numbers live came (kinds.Breaks reason) holds going = absurd (true_false going)
-  kind_numbers live came kinds.Idles holds going = same live
+      (unplugged_if (is_end_of block.alarm_sequence_number live.access.plug) live.access))
+  kind_counts live came kinds.Flows holds going = inl (flow_numbers live)
+  kind_counts live came (kinds.Breaks reason) holds going = absurd (true_false going)
+  kind_counts live came kinds.Idles holds going = inl (same live)
 
   -- with each turn, unless the controller has ended
   pub event_numbers : (live : Live) (one : Event) → IsTurn setup live (came_by setup one) (turn_of setup live one)
-      → is_ended (turn_of setup live one).live.phase ≡ false → Numbers setup live.access (turn_of setup live one).live.access
+      → is_ended (turn_of setup live one).live.phase ≡ false → Counts setup live (turn_of setup live one).live
   event_numbers live one turn going =
-      subst (λ (t : Turn). Numbers setup live.access t.live.access) (sym turn.is)
-      (kind_numbers live (came_by setup one) turn.kind turn.holds (subst (λ (t : Turn). is_ended t.live.phase ≡ false) turn.is going))
+      subst (λ (t : Turn). Counts setup live t.live) (sym turn.is)
+      (kind_counts live (came_by setup one) turn.kind turn.holds (subst (λ (t : Turn). is_ended t.live.phase ≡ false) turn.is going))

@@ -360,14 +360,14 @@ module _ (so : PluggedSo) (asking : AskedSo) (device_so : DeviceSo) (hears : Hea
         Spoken = said_in before.controller.setup (heard_by before.controller.setup.plan.controller) it.event
 
         goes_so : is_ended next.phase ≡ false
-            → Goes Said_as before.controller.setup.plan Spoken before.controller.live (turn_of before.controller.setup before.controller.live it.event)
+            → Goes before.controller.setup.plan Spoken before.controller.live (turn_of before.controller.setup before.controller.live it.event)
         goes_so going =
-            by_so (event_turns Said_as before.controller.setup Spoken before.controller.live base.both.held.steady base.both.held.alone
+            by_so (event_turns before.controller.setup Spoken before.controller.live base.both.held.steady base.both.held.alone
             (so.fine.calls.follows before.controller.setup) (so.fine.calls.due_so before.controller.setup) it.event refl it.unrefused on.in_step).so
           where
             by_so : (is_ended next.phase ≡ true)
-                ⊎ Goes Said_as before.controller.setup.plan Spoken before.controller.live (turn_of before.controller.setup before.controller.live it.event)
-                → Goes Said_as before.controller.setup.plan Spoken before.controller.live (turn_of before.controller.setup before.controller.live it.event)
+                ⊎ Goes before.controller.setup.plan Spoken before.controller.live (turn_of before.controller.setup before.controller.live it.event)
+                → Goes before.controller.setup.plan Spoken before.controller.live (turn_of before.controller.setup before.controller.live it.event)
             by_so (inl over) = absurd (true_false (sym over ∙ going))
             by_so (inr goes) = goes
 
@@ -378,7 +378,7 @@ module _ (so : PluggedSo) (asking : AskedSo) (device_so : DeviceSo) (hears : Hea
         abbrev plan : Parts
         plan = before.controller.setup.plan
 
-        few_steps : write_count plan + 2 < 4294967295
+        few_steps : write_count plan + 65538 < 4294967295
         few_steps =
             let count = count_few plan good_here.plan.few_records in
             omega (arith, count)
@@ -394,12 +394,13 @@ module _ (so : PluggedSo) (asking : AskedSo) (device_so : DeviceSo) (hears : Hea
             -- a call of the start-up has a smaller number
             started : (request : Asking) → before.controller.live.asked ≡ Some request → sequence_of plan request ≡ 4294967295 → ⊥
             started request is same =
-                let less = step_number plan before.controller.live.phase before.controller.live.asked request base.both.held.steady.asked is (going_before going) in
-                let few_all = few_steps in
-                not_last (sequence_of plan request) (lower (sequence_of plan request) less few_all) same
+                let less = step_number plan before.controller.live.phase before.controller.live.access.calls before.controller.live.asked request
+                base.both.held.steady.asked base.both.held.steady.calls is (going_before going) in
+                not_last (sequence_of plan request) (lower (sequence_of plan request) before.controller.live.access.calls less.0 less.1 few_steps) same
               where
-                lower : (number : ℕ) → number < write_count plan + 2 → write_count plan + 2 < 4294967295 → number < 4294967295
-                lower number below most = omega (arith, below, most)
+                lower : (number calls : ℕ) → number < write_count plan + 2 + calls → calls < 65536 → write_count plan + 65538 < 4294967295
+                    → number < 4294967295
+                lower number calls below few most = omega (arith, below, few, most)
 
             by_uncounted : (m : Sent) → IsPresentAs before.controller.live m → IsUncounted m → Rattle.plug_ends.proofs.CallsTurns.number_in plan m ≡ 4294967295 → ⊥
             by_uncounted (Requests to request) is un same = started request is same
@@ -420,7 +421,7 @@ module _ (so : PluggedSo) (asking : AskedSo) (device_so : DeviceSo) (hears : Hea
             by_over (inr answered) =
                 alive (dead (kept_for before.controller.setup before.device.live)
                 (subst (λ (n : ℕ). Covers n (kept_for before.controller.setup before.device.live)) last
-                (it.covers (Rattle.plug_ends.proofs.CallsTurns.number_in plan message) answered.positive answered.is)))
+                (it.covers (Rattle.plug_ends.proofs.CallsTurns.number_in plan message) answered.reply answered.is)))
 
             by_goes : (present_of next ≡ present_of before.controller.live) ⊎ IsOver plan Spoken (present_of before.controller.live) → present_of next ≡ Some message
             by_goes (inl same) = same ∙ present
@@ -441,13 +442,15 @@ module _ (so : PluggedSo) (asking : AskedSo) (device_so : DeviceSo) (hears : Hea
             same_size : (one number : ℕ) → one ≡ number → number < 4294967296 → one < 4294967296
             same_size one number same less = omega (arith, same, less)
 
-            step_size : (number : ℕ) → number < write_count plan + 2 → write_count plan + 2 < 4294967295 → number < 4294967296
-            step_size number below most = omega (arith, below, most)
+            step_size : (number calls : ℕ) → number < write_count plan + 2 + calls → calls < 65536 → write_count plan + 65538 < 4294967295
+                → number < 4294967296
+            step_size number calls below few most = omega (arith, below, few, most)
 
             by_message : (m : Sent) → IsPresentAs next m → IsAimedAt before.device.station.identity.mac m
                 → Rattle.plug_ends.proofs.CallsTurns.number_in plan m < 4294967296
             by_message (Requests to request) is aims =
-                step_size (sequence_of plan request) (step_number plan next.phase next.asked request on.in_step.asked is going) few_steps
+                let less = step_number plan next.phase next.access.calls next.asked request on.in_step.asked on.in_step.calls is going in
+                step_size (sequence_of plan request) next.access.calls less.0 less.1 few_steps
             by_message (Accesses to request octets) is aims = aims.1.0
             by_message (Parametrizes to request) is aims = aims.1
             by_message (Agrees caller answer) is aims = absurd is
@@ -474,7 +477,7 @@ module _ (so : PluggedSo) (asking : AskedSo) (device_so : DeviceSo) (hears : Hea
             on.in_step going
             (event_numbers before.controller.setup (so.fine.calls.follows before.controller.setup) (so.fine.calls.flows before.controller.setup)
             before.controller.live it.event (so.fine.calls.kinds before.controller.setup before.controller.live it.event) going)
-            it.meant (goes_so going).1 aimed_so (last_stays going alive)
+            few_steps it.meant (goes_so going).1 aimed_so (last_stays going alive)
 
         ending : is_ended next.phase ≡ true → AllByRecursion (λ frame. (sequence : ℕ) (ask : Ask)
             → (rules_of before.controller.setup before.device.station).to_device frame ≡ small.Call sequence ask → ask ≡ small.Releases) more

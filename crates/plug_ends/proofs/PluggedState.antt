@@ -21,9 +21,9 @@ use Rattle.controller_core.specs.Machine.{step_from}
 use Rattle.network_world.specs.World.{is_ended}
 use Rattle.end_laws.specs.hearing.Stations.{IsPlugCall, IsRecordCall}
 use Rattle.end_laws.specs.both.Small as small
-use Rattle.end_laws.specs.both.Small.{Ask, Rules, ToController}
+use Rattle.end_laws.specs.both.Small.{Ask, Rules, ToController, reply_of}
 use Rattle.end_laws.specs.both.Steps.{IsNew}
-use Rattle.end_laws.specs.controller.Small.{is_positive, said_to}
+use Rattle.end_laws.specs.controller.Small.{said_to}
 use Rattle.both_ends.specs.startup.Played.{AreUnnamed}
 use Rattle.both_ends.specs.startup.View.{rules_of}
 use Rattle.plug_ends.proofs.AskedWords.{HearsEnd, WasPlug}
@@ -59,11 +59,11 @@ pub record Grants (setup : Setup) (sequence : ℕ) (frame : List ℕ) : Type 0 w
   pub done : is_done response.status ≡ true
 
 pub grants_answers : (setup : Setup) (sequence : ℕ) (frame : List ℕ) (grants : Grants setup sequence frame)
-    → said_to setup (heard_by setup.plan.controller frame) ≡ small.Answers sequence (is_positive setup.plan grants.response)
+    → said_to setup (heard_by setup.plan.controller frame) ≡ small.Answers sequence (reply_of grants.response)
 grants_answers setup sequence frame grants =
     ap (λ (heard : Heard). said_to setup heard) grants.hears
-    ∙ (ap (λ (b : Bool). if b then small.Answers grants.response.header.sequence (is_positive setup.plan grants.response) else small.Nothing) grants.own
-    ∙ ap (λ (n : ℕ). small.Answers n (is_positive setup.plan grants.response)) grants.number)
+    ∙ (ap (λ (b : Bool). if b then small.Answers grants.response.header.sequence (reply_of grants.response) else small.Nothing) grants.own
+    ∙ ap (λ (n : ℕ). small.Answers n (reply_of grants.response)) grants.number)
 
 -- ---- Writes that are new to the device
 

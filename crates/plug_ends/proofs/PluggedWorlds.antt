@@ -36,9 +36,10 @@ use Rattle.network_world.specs.World.{at_controller, AtDevice, Comes, Delivers, 
 use Rattle.end_laws.specs.sending.Addressed.{IsAimedAt, IsEventFrom}
 use Rattle.end_laws.specs.hearing.Stations.{IsPlugCall}
 use Rattle.end_laws.specs.both.Small as small
-use Rattle.end_laws.specs.both.Small.{Ask, Rules, ToDevice}
+use Rattle.controller_core.specs.start_up.Requests.{end_after, write_after}
+use Rattle.end_laws.specs.both.Small.{Ask, Reply, Rules, ToDevice}
 use Rattle.end_laws.specs.both.Steps.{DeviceSteps, GoesBy, IsDull, IsReady}
-use Rattle.end_laws.specs.controller.Small.{IsInStep, IsSteady, MayWait, said_in}
+use Rattle.end_laws.specs.controller.Small.{IsCounted, IsInStep, IsSteady, MayWait, said_in, tries_in}
 use Rattle.end_laws.specs.device.Small as device
 use Rattle.both_ends.specs.startup.View.{IsMeant, IsMeantAtController, IsMeantAtDevice, IsSaidAs, rules_of}
 use Rattle.plug_ends.specs.Calls.{WasSent}
@@ -46,7 +47,7 @@ use Rattle.plug_ends.proofs.CallsFine.{Both, FineSo}
 use Rattle.plug_ends.proofs.CallsFrames.{Covers, idle_call, nothing_answers}
 use Rattle.plug_ends.proofs.CallsHeard.{IsFineAt, fine_from, fine_unrefused}
 use Rattle.plug_ends.proofs.CallsRuns.{all_at, all_both, all_map, heard_said, kept_for, number_said, plain_said}
-use Rattle.plug_ends.proofs.CallsTurns.{IsAsked, IsUnrefused, none_some, number_in, present_by, present_of, some_same, plugged_is, waiting_is}
+use Rattle.plug_ends.proofs.CallsTurns.{IsAsked, IsUnrefused, none_some, number_in, present_by, present_of, requested_is, some_same, plugged_is, waiting_is}
 use Rattle.plug_ends.proofs.ToldRuns.{HeardWith}
 use Rattle.plug_ends.proofs.PluggedNumbers.{IsAccessMade, IsPlugMade, IsSameOr, Numbers}
 
@@ -72,7 +73,7 @@ pub record ControllerMoved {F : Type 0} (before after : World F) : Type 0 where
   pub meant : IsMeantAtController before event
   pub from : IsEventFrom before.device.station.identity.mac before.controller.setup event
   pub unrefused : IsUnrefused before.controller.setup event
-  pub covers : (number : ℕ) (positive : Bool) → said_in before.controller.setup (heard_by before.controller.setup.plan.controller) event ≡ small.Answers number positive
+  pub covers : (number : ℕ) (reply : Reply) → said_in before.controller.setup (heard_by before.controller.setup.plan.controller) event ≡ small.Answers number reply
       → Covers number (kept_for before.controller.setup before.device.live)
   pub happens : after ≡ at_controller before event
 
@@ -88,13 +89,13 @@ module _ (so : FineSo) (setup : Setup) {F : Type 0} {S : ℕ} (as_flash : Flash 
   by_device one heard by from meant made = inr (inl (record { heard = heard; by = by; meant = meant; made = made; from = from }))
 
   abbrev IsCovered : Event → Type 0
-  IsCovered event = (number : ℕ) (positive : Bool)
-      → said_in before.controller.setup (heard_by before.controller.setup.plan.controller) event ≡ small.Answers number positive
+  IsCovered event = (number : ℕ) (reply : Reply)
+      → said_in before.controller.setup (heard_by before.controller.setup.plan.controller) event ≡ small.Answers number reply
       → Covers number (kept_for before.controller.setup before.device.live)
 
-  nothing_said : (number : ℕ) (positive : Bool) → small.Nothing ≡ small.Answers number positive
+  nothing_said : (number : ℕ) (reply : Reply) → small.Nothing ≡ small.Answers number reply
       → Covers number (kept_for before.controller.setup before.device.live)
-  nothing_said number positive e = absurd (nothing_answers number positive e)
+  nothing_said number reply e = absurd (nothing_answers number reply e)
 
   by_controller : (one : Move) (event : Event) → IsEventFrom before.device.station.identity.mac before.controller.setup event
       → IsUnrefused before.controller.setup event → IsCovered event → IsMeantAtController before event → after ≡ at_controller before event
@@ -183,35 +184,42 @@ present_as live message e = by_asked live.asked refl e
     by_asked None f is = by_plug live.access.plug refl f is
     by_asked (Some request) f is = subst (λ (m : Sent). IsPresentAs live m) (some_same (Requests live.device request) message is) f
 
--- a request of the start-up has a number below those of the requests beside the exchange
-pub step_number : (plan : Parts) (phase : State) (asked : Option Asking) (request : Asking) → IsInStep plan phase asked → asked ≡ Some request
-    → is_ended phase ≡ false → sequence_of plan request < write_count plan + 2
-step_number plan phase asked request step is going = by_phase phase step going
+-- a request of the start-up has a number below the next one of a request beside the exchange, and few calls were made
+pub step_number : (plan : Parts) (phase : State) (calls : ℕ) (asked : Option Asking) (request : Asking) → IsInStep plan phase asked
+    → IsCounted phase asked calls → asked ≡ Some request → is_ended phase ≡ false
+    → (sequence_of plan request < write_count plan + 2 + calls) × (calls < 65536)
+step_number plan phase calls asked request step counted is going = by_phase phase step counted going
   where
-    below : (other : Asking) → asked ≡ Some other → sequence_of plan other < write_count plan + 2 → sequence_of plan request < write_count plan + 2
-    below other same less = subst (λ (r : Asking). sequence_of plan r < write_count plan + 2) (some_same other request (sym same ∙ is)) less
+    abbrev IsBelow : Asking → Type 0
+    IsBelow r = (sequence_of plan r < write_count plan + 2 + calls) × (calls < 65536)
 
-    write_below : (number : ℕ) → number < write_count plan → number + 1 < write_count plan + 2
-    write_below number less = omega (arith, less)
+    abbrev AreCounted : Type 0
+    AreCounted = (calls ≡ tries_in asked) × (calls < 65536)
 
-    zero_below : 0 < write_count plan + 2
-    zero_below = omega arith
+    below : (other : Asking) → asked ≡ Some other → (calls ≡ tries_in (Some other) → sequence_of plan other < write_count plan + 2 + calls) → AreCounted
+        → IsBelow request
+    below other same less c = subst IsBelow (some_same other request (sym same ∙ is)) (less (c.0 ∙ ap tries_in same), c.1)
 
-    end_below : write_count plan + 1 < write_count plan + 2
-    end_below = omega arith
+    write_below : (number : ℕ) (tries : Option ℕ) → asked ≡ Some (write_after number tries) → number < write_count plan → AreCounted → IsBelow request
+    write_below number None same less = below (asks.Write number) same (λ c. omega (arith, less))
+    write_below number (Some tries) same less = below (asks.WriteAfter number tries) same (λ c. omega (arith, less, c))
+
+    end_below : (tries : Option ℕ) → asked ≡ Some (end_after tries) → AreCounted → IsBelow request
+    end_below None same = below asks.PrmEnd same (λ c. omega arith)
+    end_below (Some tries) same = below (asks.PrmEndAfter tries) same (λ c. omega (arith, c))
 
     true_false : true ≡ false → ⊥
     true_false e = absurd cc
 
-    by_phase : (p : State) → IsInStep plan p asked → is_ended p ≡ false → sequence_of plan request < write_count plan + 2
-    by_phase Looking same g = below asks.Identify same zero_below
-    by_phase Addressing same g = below asks.Address same zero_below
-    by_phase Connecting same g = below asks.Connect same zero_below
-    by_phase Writing same g = below (asks.Write same.0) same.2 (write_below same.0 same.1)
-    by_phase Ending same g = below asks.PrmEnd same end_below
-    by_phase Waiting same g = absurd (none_some request (sym same ∙ is))
-    by_phase Exchanging same g = absurd (none_some request (sym same ∙ is))
-    by_phase (Ended cause) same g = absurd (true_false g)
+    by_phase : (p : State) → IsInStep plan p asked → IsCounted p asked calls → is_ended p ≡ false → IsBelow request
+    by_phase Looking same c g = below asks.Identify same (λ e. omega arith) c
+    by_phase Addressing same c g = below asks.Address same (λ e. omega arith) c
+    by_phase Connecting same c g = below asks.Connect same (λ e. omega arith) c
+    by_phase Writing same c g = write_below same.0 same.1 same.3 same.2 c
+    by_phase Ending same c g = end_below same.0 same.1 c
+    by_phase Waiting same c g = absurd (none_some request (sym same ∙ is))
+    by_phase Exchanging same c g = absurd (none_some request (sym same ∙ is))
+    by_phase (Ended cause) same c g = absurd (true_false g)
 
 -- while a request after a plug waits, none of the start-up does, and the controller has not ended
 pub beside_alone : (plan : Parts) (live : ControllerLive) (request : PlugRequest) → IsSteady plan live → live.access.plug ≡ Some request
@@ -420,7 +428,8 @@ not_first_access plan live request steady is none first message present last = b
 
 module _ (setup : Setup) (station : Station) (mac : Mac) (before after : Controlling) (live : Live) (sent : List (List ℕ))
     (messages : List Sent) (before_of : before.setup ≡ setup) (after_of : after.setup ≡ setup) (was : Numbered before station live sent)
-    (steady : IsSteady setup.plan after.live) (going : is_ended after.live.phase ≡ false) (numbers : Numbers setup before.live.access after.live.access)
+    (steady : IsSteady setup.plan after.live) (going : is_ended after.live.phase ≡ false) (numbers : Counts setup before.live after.live)
+    (few : write_count setup.plan + 65538 < 4294967295)
     (said : AllByRecursion (IsSaidAs setup station) messages) (made : AllByRecursion (IsAsked after.live) messages)
     (aimed : AllByRecursion (IsAimedAt mac) messages)
     (stays : (message : Sent) → present_of before.live ≡ Some message → number_in before.setup.plan message ≡ 4294967295
@@ -473,10 +482,22 @@ module _ (setup : Setup) (station : Station) (mac : Mac) (before after : Control
         let least : write_count setup.plan + 2 ≤ was.bound = subst (λ (s : Setup). write_count s.plan + 2 ≤ was.bound) before_of was.least in
         omega (arith, least, later)
 
-    start_below : (number : ℕ) → number < write_count setup.plan + 2 → number < bound
-    start_below number less =
-        let least = least_now in
-        omega (arith, less, least)
+    -- a request of the start-up has a number below the next one, which is the bound then
+    start_below : (request : Asking) → after.live.asked ≡ Some request → sequence_of setup.plan request < bound
+    start_below request is = by_next next
+      where
+        small : (sequence_of setup.plan request < write_count setup.plan + 2 + after.live.access.calls) × (after.live.access.calls < 65536)
+        small = step_number setup.plan after.live.phase after.live.access.calls after.live.asked request steady.asked steady.calls is going
+
+        next_is : next_of after ≡ write_count setup.plan + 2 + after.live.access.calls
+        next_is = next_after ∙ mod-eq_of_lt (omega (arith, small.1, few))
+
+        by_next : (next_of after ≡ bound) ⊎ ((next_of after ≡ 0) × IsLast after) → sequence_of setup.plan request < bound
+        by_next (inl same) = subst (λ (n : ℕ). sequence_of setup.plan request < n) (sym next_is ∙ same) small.0
+        by_next (inr last) = absurd (is_none (sym last.0 ∙ next_is))
+          where
+            is_none : 0 ≡ write_count setup.plan + 2 + after.live.access.calls → ⊥
+            is_none e = absurd (omega (arith, e))
 
     none_waits : (request : Asking) → after.live.asked ≡ Some request → (other : PlugRequest) → after.live.access.plug ≡ Some other → ⊥
     none_waits request e other f = none_some request (sym (beside_alone setup.plan after.live other steady f).0 ∙ e)
@@ -502,9 +523,7 @@ module _ (setup : Setup) (station : Station) (mac : Mac) (before after : Control
 
         by_message : (m : Sent) → m ≡ message → IsPresentAs after.live m → Below message sequence
         by_message (Requests to request) same is = (
-          same_below (sequence_of setup.plan request) (is_number ∙ ap (λ (x : Sent). number_in setup.plan x) (sym same))
-              (start_below (sequence_of setup.plan request)
-              (step_number setup.plan after.live.phase after.live.asked request steady.asked is going)),
+          same_below (sequence_of setup.plan request) (is_number ∙ ap (λ (x : Sent). number_in setup.plan x) (sym same)) (start_below request is),
           λ other f. absurd (none_waits request is other f),
         )
         by_message (Accesses to request octets) same is = (
@@ -621,6 +640,21 @@ module _ (setup : Setup) (station : Station) (mac : Mac) (before after : Control
       let at_most = bound_later f in
       omega (arith, less, at_most)
 
+  -- the calls of a start-up are few
+  try_number : (one : IsTryMade before.live after.live)
+      → (sequence_of setup.plan one.request < write_count setup.plan + 2 + after.live.access.calls) × (after.live.access.calls < 65536)
+  try_number one = step_number setup.plan after.live.phase after.live.access.calls after.live.asked one.request steady.asked steady.calls one.asked going
+
+  few_calls : IsTryMade before.live after.live → write_count setup.plan + 2 + after.live.access.calls < 4294967296
+  few_calls one =
+      let number = try_number one in
+      omega (arith, number.1, few)
+
+  small_try : (one : IsTryMade before.live after.live) → sequence_of setup.plan one.request < 4294967295
+  small_try one =
+      let number = try_number one in
+      omega (arith, number.0, number.1, few)
+
   -- the next number after the one that was made
   next_made : after.live.access.calls ≡ (before.live.access.calls + 1) % 4294967296
       → (message : Sent) → present_of after.live ≡ Some message → number_in setup.plan message ≡ number_before
@@ -633,7 +667,7 @@ module _ (setup : Setup) (station : Station) (mac : Mac) (before after : Control
       by_on (inr last) = inr (last.1, (message, present, ap (λ (s : Setup). number_in s.plan message) after_of ∙ (number ∙ last.0)))
 
   pub controller_numbered : Numbered after station live (sent ++ map (bytes_of setup) messages)
-  controller_numbered = by_numbers numbers
+  controller_numbered = by_counts numbers
     where
       last_stays : IsLast before → IsLast after
       last_stays it = (it.0, stays it.0 it.1 it.2, ap (λ (s : Setup). number_in s.plan it.0) (after_of ∙ sym before_of) ∙ it.2)
@@ -675,6 +709,34 @@ module _ (setup : Setup) (station : Station) (mac : Mac) (before after : Control
           (next_made one.calls (Accesses after.live.device one.request after.live.access.octets)
           (waiting_is after.live one.request (access_alone setup.plan after.live one.request steady one.waiting) one.none one.waiting) one.sequence)
 
+      -- the next try of a call of the start-up has the number that was the next one
+      by_try : IsTryMade before.live after.live → (next_of before ≡ was.bound) ⊎ ((next_of before ≡ 0) × IsLast before)
+          → Numbered after station live (sent ++ map (bytes_of setup) messages)
+      by_try one (inr last) = absurd (not_small (sequence_of setup.plan one.request) (small_try one) try_last)
+        where
+          try_last : sequence_of setup.plan one.request ≡ 4294967295
+          try_last =
+              ap (λ (m : Sent). number_in setup.plan m)
+              (some_same (Requests after.live.device one.request) last.1.0 (sym (requested_is after.live one.request one.asked) ∙ stays last.1.0 last.1.1 last.1.2))
+              ∙ last_number last.1
+
+          not_small : (number : ℕ) → number < 4294967295 → number ≡ 4294967295 → ⊥
+          not_small number less same = omega (arith, less, same)
+      by_try one (inl same) =
+          with_bound (number_before + 1) (bound_later same) few_more
+          (λ request e. old_later request.sequence same (was.waiting request (sym one.waiting ∙ e)))
+          (λ request e. old_later request.sequence same (was.plug request (sym one.plug ∙ e)))
+          (λ request e. inl (sym one.plug ∙ e))
+          (by_on (goes_on one.calls))
+        where
+          no_wrap : (number : ℕ) → number ≡ 0 → number ≡ write_count setup.plan + 2 + after.live.access.calls → ⊥
+          no_wrap number e f = omega (arith, e, f)
+
+          by_on : ((number_before + 1 < 4294967296) × (next_of after ≡ number_before + 1)) ⊎ ((number_before ≡ 4294967295) × (next_of after ≡ 0))
+              → (next_of after ≡ number_before + 1) ⊎ ((next_of after ≡ 0) × IsLast after)
+          by_on (inl more) = inl more.1
+          by_on (inr over) = absurd (no_wrap (next_of after) over.1 (next_after ∙ mod-eq_of_lt (few_calls one)))
+
       by_numbers : Numbers setup before.live.access after.live.access → Numbered after station live (sent ++ map (bytes_of setup) messages)
       by_numbers (inl none) =
           with_bound was.bound same_bound was.most
@@ -684,3 +746,7 @@ module _ (setup : Setup) (station : Station) (mac : Mac) (before after : Control
           (none_next none.calls was.next)
       by_numbers (inr (inl one)) = by_plug one was.next
       by_numbers (inr (inr one)) = by_access one was.next
+
+      by_counts : Counts setup before.live after.live → Numbered after station live (sent ++ map (bytes_of setup) messages)
+      by_counts (inl made) = by_numbers made
+      by_counts (inr one) = by_try one was.next

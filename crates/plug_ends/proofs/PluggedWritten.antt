@@ -42,7 +42,7 @@ use Rattle.end_laws.specs.both.Small as small
 use Rattle.end_laws.specs.both.Small.{Ask, Rules, ToDevice}
 use Rattle.end_laws.specs.both.Steps.{IsNew}
 use Rattle.end_laws.specs.controller.Small.{IsInStep}
-use Rattle.end_laws.specs.device.Small.{IsPlanned, IsPlannedCall, Planned, heard_as, kept_in, written_by}
+use Rattle.end_laws.specs.device.Small.{IsPlanned, IsPlannedCall, Planned, heard_as, kept_in, number_in, written_by}
 use Rattle.end_laws.specs.device.Small as device
 use Rattle.both_ends.specs.startup.Played.{ArePlaced, IsParameter, IsPlaced}
 use Rattle.both_ends.specs.startup.View.{is_planned, rules_of, taken_for}
@@ -53,7 +53,7 @@ use Rattle.plug_ends.specs.Told.{LastPlug}
 use Rattle.plug_ends.proofs.AskedKinds.{IsStarting}
 use Rattle.plug_ends.proofs.AskedLists.{last_upper, last_was, plug_here, was_more}
 use Rattle.plug_ends.proofs.AskedWords.{HearsEnd, IsEndedAt, WasPlug}
-use Rattle.plug_ends.proofs.CallsRuns.{Held, all_at}
+use Rattle.plug_ends.proofs.CallsRuns.{Held, IsTied, all_at}
 use Rattle.plug_ends.proofs.CallsTurns.{none_some, present_of, some_same}
 use Rattle.plug_ends.proofs.CallsWorlds.{new_kept}
 use Rattle.plug_ends.proofs.DeviceGoes.{TakesRecords}
@@ -128,7 +128,11 @@ module _ (slot subslot : ℕ) (c : Controlling) (station : Station) (live : Live
       by_calls : (fresh.ask ≡ small.Parameterized) ⊎ ((held.last ≡ Some frame) ⊎ ((fresh.ask ≡ small.Releases) × (is_ended c.live.phase ≡ true)))
           → (m : Sent) × (present_of c.live ≡ Some m) × (bytes_of c.setup m ≡ frame)
       by_calls (inl e) = absurd (no_end e)
-      by_calls (inr (inl e)) = some_frame (present_of c.live) frame (sym (held.tie going) ∙ e)
+      by_calls (inr (inl e)) = by_tie (held.tie going)
+        where
+          by_tie : IsTied c station held.last → (m : Sent) × (present_of c.live ≡ Some m) × (bytes_of c.setup m ≡ frame)
+          by_tie (inl none) = absurd (none_some frame (sym none ∙ e))
+          by_tie (inr tied) = some_frame (present_of c.live) frame (sym tied.0 ∙ e)
       by_calls (inr (inr e)) = absurd (no_release e.0)
 
   pub writes_known : (frame : List ℕ) → WasIn sent frame → (fresh : IsNewIn c.setup station live frame) → (fresh.ask ≡ small.Parameterized → ⊥)
@@ -182,10 +186,11 @@ pub record IsWriteCall (planned : Planned) (call : Call) : Type 0 where
 write_call : (planned : Planned) (call : Call) → operation_of call.header.operation ≡ Some operation.Write → IsWriteCall planned call
 write_call planned call asks = by_test (planned call.header.sequence (unwrap_or call.blocks [])) refl
   where
-    said : (b : Bool) → planned call.header.sequence (unwrap_or call.blocks []) ≡ b → device.said_to planned (Calls call) ≡ written_by b call.header.sequence
+    said : (b : Bool) → planned call.header.sequence (unwrap_or call.blocks []) ≡ b
+        → device.said_to planned (Calls call) ≡ written_by b call.header.sequence (number_in (unwrap_or call.blocks []))
     said b e =
         ap (λ (which : Option Operation). device.asked_by planned call.header.sequence (unwrap_or call.blocks []) which) asks
-        ∙ ap (λ (x : Bool). written_by x call.header.sequence) e
+        ∙ ap (λ (x : Bool). written_by x call.header.sequence (number_in (unwrap_or call.blocks []))) e
 
     by_test : (b : Bool) → planned call.header.sequence (unwrap_or call.blocks []) ≡ b → IsWriteCall planned call
     by_test true e = record { ask = _; is = said true e; no_end = λ f. absurd cc; no_release = λ f. absurd cc }
