@@ -124,11 +124,11 @@ asks_by : (rules : Rules TakenRecord Request) (named : _) (real : _) (sequence :
     → (planned : device.Planned) → Asks which (device.asked_by planned sequence blocks which) sequence
 asks_by rules named real sequence blocks (Some operation.Connect) plan planned = record
     { ask = small.Connects; is = refl; ends_parameters = λ e. absurd cc; ends_relation = λ e. absurd cc }
-asks_by rules named real sequence blocks (Some operation.Write) plan planned = by_test (planned sequence blocks)
+asks_by rules named real sequence blocks (Some operation.Write) plan planned = by_test (planned sequence blocks) (device.number_in blocks)
   where
-    by_test : (b : Bool) → Asks (Some operation.Write) (written_by b sequence) sequence
-    by_test true = record { ask = small.Writes _; is = refl; ends_parameters = λ e. absurd cc; ends_relation = λ e. absurd cc }
-    by_test false = record { ask = small.Accesses; is = refl; ends_parameters = λ e. absurd cc; ends_relation = λ e. absurd cc }
+    by_test : (b : Bool) (write : ℕ) → Asks (Some operation.Write) (written_by b sequence write) sequence
+    by_test true write = record { ask = small.Writes _; is = refl; ends_parameters = λ e. absurd cc; ends_relation = λ e. absurd cc }
+    by_test false write = record { ask = small.Accesses; is = refl; ends_parameters = λ e. absurd cc; ends_relation = λ e. absurd cc }
 asks_by rules named real sequence blocks (Some operation.Control) plan planned = record
     { ask = small.Parameterized; is = refl; ends_parameters = λ e. refl; ends_relation = λ e. absurd cc }
 asks_by rules named real sequence blocks (Some operation.Release) plan planned = record

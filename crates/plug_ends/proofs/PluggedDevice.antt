@@ -45,7 +45,7 @@ use Rattle.controller_core.specs.stored.State.{Controlling}
 use Rattle.end_laws.specs.hearing.Hearing.{mine_reported, own_reported}
 use Rattle.end_laws.specs.hearing.Stations.{IsDevice, IsSetup}
 use Rattle.end_laws.specs.both.Small as small
-use Rattle.end_laws.specs.both.Small.{Ask, Rules, ToController, ToDevice}
+use Rattle.end_laws.specs.both.Small.{Ask, Reply, Rules, ToController, ToDevice}
 use Rattle.end_laws.specs.both.Steps.{DeviceSteps, IsDull, IsNew, IsReady, SaysAtMost}
 use Rattle.end_laws.specs.device.Owed.{IsOwed}
 use Rattle.end_laws.specs.device.Small.{IsHeardAs, IsPlanned, IsPlannedCall, Planned, heard_as, kept_in, link_of, written_by}
@@ -114,15 +114,16 @@ pub plug_small : (setup : Setup) (caller : Caller) (address : List ℕ) (request
     → (ask : Ask) × (heard_as planned (hears_plug setup caller address request) ≡ small.Call request.sequence ask)
 unfolding operation_of
 plug_small setup caller address request number is planned =
-    let asked = by_test (planned request.sequence (plug_blocks setup request request.step)) in (
+    let blocks = plug_blocks setup request request.step in
+    let asked = by_test (planned request.sequence blocks) (device.number_in blocks) in (
       asked.0,
       ap (λ (step : PlugStep). device.asked_by planned request.sequence (plug_blocks setup request request.step) (operation_of (plug_operation step))) is
           ∙ asked.1,
     )
   where
-    by_test : (b : Bool) → (ask : Ask) × (written_by b request.sequence ≡ small.Call request.sequence ask)
-    by_test true = (_, refl)
-    by_test false = (_, refl)
+    by_test : (b : Bool) (write : ℕ) → (ask : Ask) × (written_by b request.sequence write ≡ small.Call request.sequence ask)
+    by_test true write = (_, refl)
+    by_test false write = (_, refl)
 
 -- a controller hears its own response alone
 response_is : (mine : Controller) (mac : Mac) (endpoint : Endpoint) (answer response : Response)
@@ -226,14 +227,14 @@ module _ (so : PluggedSo) (c : Controlling) (station : Station) (live : Live) (s
   abbrev pub Shows : List ℕ → Type 0
   Shows frame = Grants c.setup request.sequence frame → (OneMore × IsNew request.sequence kept) ⊎ OldKept frame
 
-  says_other : (says : ToController) (frame : List ℕ) → ((positive : Bool) → says ≡ small.Answers request.sequence positive → ⊥) → SaysAtMost rules says frame → Shows frame
+  says_other : (says : ToController) (frame : List ℕ) → ((reply : Reply) → says ≡ small.Answers request.sequence reply → ⊥) → SaysAtMost rules says frame → Shows frame
   says_other says frame apart (inl none) grants = absurd
       (nothing_answers request.sequence _ (sym none ∙ grants_answers c.setup request.sequence frame grants))
   says_other says frame apart (inr is) grants = absurd (apart _ (sym is ∙ grants_answers c.setup request.sequence frame grants))
 
   other_shows : (frame : List ℕ) → IsDull rules frame ⊎ IsReady rules (device.small_of c.setup.activity after) frame → Shows frame
-  other_shows frame (inl dull) = says_other small.Nothing frame (λ positive e. nothing_answers request.sequence positive e) (inl dull.1)
-  other_shows frame (inr ready) = says_other small.Readies frame (λ positive e. readies_answers request.sequence positive e) ready.to_controller
+  other_shows frame (inl dull) = says_other small.Nothing frame (λ reply e. nothing_answers request.sequence reply e) (inl dull.1)
+  other_shows frame (inr ready) = says_other small.Readies frame (λ reply e. readies_answers request.sequence reply e) ready.to_controller
 
   -- ---- the messages, if it is the call that waits
 
@@ -250,8 +251,8 @@ module _ (so : PluggedSo) (c : Controlling) (station : Station) (live : Live) (s
     abbrev Each : Sent → Type 0
     Each message = IsHeardAs rules station.identity message × (IsSendable station.identity message × (IsOwed heard live message × (IsPositive message → OneMore)))
 
-    nothing_says : (positive : Bool) → small.Nothing ≡ small.Answers request.sequence positive → ⊥
-    nothing_says positive e = nothing_answers request.sequence positive e
+    nothing_says : (reply : Reply) → small.Nothing ≡ small.Answers request.sequence reply → ⊥
+    nothing_says reply e = nothing_answers request.sequence reply e
 
     message_shows : (message : Sent) → Each message → Shows (bytes_of station.identity message)
     message_shows (CallAnswer caller address answer) each = λ grants.
@@ -271,7 +272,7 @@ module _ (so : PluggedSo) (c : Controlling) (station : Station) (live : Live) (s
           it.same,
         )
     message_shows (ReadyCall address ready) each =
-        says_other small.Readies _ (λ positive e. readies_answers request.sequence positive e) each.0.1
+        says_other small.Readies _ (λ reply e. readies_answers request.sequence reply e) each.0.1
     message_shows (PlugReadyCall address ready) each = says_other small.Nothing _ nothing_says each.0.1
     message_shows (IdentifyAnswer asker running xid) each = says_other small.Nothing _ nothing_says each.0.1
     message_shows (GetAnswer asker running alias asked) each = says_other small.Nothing _ nothing_says each.0.1
@@ -302,12 +303,12 @@ module _ (so : PluggedSo) (c : Controlling) (station : Station) (live : Live) (s
   not_less : (one other : ℕ) → one < other → one ≡ other → ⊥
   not_less one other less same = omega (arith, less, same)
 
-  answer_number : (sequence : ℕ) (positive : Bool) (frame : List ℕ) → SaysAtMost rules (small.Answers sequence positive) frame → Grants c.setup request.sequence frame
+  answer_number : (sequence : ℕ) (reply : Reply) (frame : List ℕ) → SaysAtMost rules (small.Answers sequence reply) frame → Grants c.setup request.sequence frame
       → sequence ≡ request.sequence
-  answer_number sequence positive frame (inl none) grants = absurd
+  answer_number sequence reply frame (inl none) grants = absurd
       (nothing_answers request.sequence _ (sym none ∙ grants_answers c.setup request.sequence frame grants))
-  answer_number sequence positive frame (inr is) grants =
-      answers_same sequence request.sequence positive _ (sym is ∙ grants_answers c.setup request.sequence frame grants)
+  answer_number sequence reply frame (inr is) grants =
+      answers_same sequence request.sequence reply _ (sym is ∙ grants_answers c.setup request.sequence frame grants)
 
   abbrev Frames : List (List ℕ) → Type 0
   Frames frames = AllByRecursion Shows frames
@@ -335,7 +336,7 @@ module _ (so : PluggedSo) (c : Controlling) (station : Station) (live : Live) (s
         where
           first : Shows it.frame
           first grants =
-              let same = answer_number sequence it.positive it.frame it.to_controller grants in
+              let same = answer_number sequence it.reply it.frame it.to_controller grants in
               by_called same (called sequence ask e)
             where
               by_called : sequence ≡ request.sequence → (sequence < request.sequence) ⊎ IsItsCall → (OneMore × IsNew request.sequence kept) ⊎ OldKept it.frame
@@ -352,7 +353,7 @@ module _ (so : PluggedSo) (c : Controlling) (station : Station) (live : Live) (s
         where
           last : Shows it.frame
           last grants = absurd (not_less it.sequence request.sequence ((numbered.question it.sequence it.asked).1 request waits)
-              (answer_number it.sequence it.positive it.frame it.to_controller grants))
+              (answer_number it.sequence it.reply it.frame it.to_controller grants))
 
   pub kept_shows : (answer : small.Kept) → kept_for c.setup after ≡ Some answer → Shows answer.frame
   kept_shows =

@@ -962,13 +962,13 @@ module _ (so : PluggedSo) (slot subslot : ℕ) (c : Controlling) (station : Stat
             ∙ (ap (λ (w : Option Operation). device.asked_by (is_planned c.setup) asking.call.header.sequence blocks w) f ∙ said.1),
       )
 
-      by_test : (b : Bool) → (ask : Ask) × (device.written_by b asking.call.header.sequence ≡ small.Call asking.call.header.sequence ask)
-      by_test true = (_, refl)
-      by_test false = (_, refl)
+      by_test : (b : Bool) (write : ℕ) → (ask : Ask) × (device.written_by b asking.call.header.sequence write ≡ small.Call asking.call.header.sequence ask)
+      by_test true write = (_, refl)
+      by_test false write = (_, refl)
 
       by_wanted : (what : Wanted) → operation_of asking.call.header.operation ≡ Some (operation_asked what) → Small
       by_wanted (wanted.Read read) f = by_which operation.Read f (_, refl)
-      by_wanted (wanted.Write write) f = by_which operation.Write f (by_test (is_planned c.setup asking.call.header.sequence blocks))
+      by_wanted (wanted.Write write) f = by_which operation.Write f (by_test (is_planned c.setup asking.call.header.sequence blocks) (device.number_in blocks))
       by_wanted (wanted.ReadImplicit read) f =
           absurd (subst (λ (which : Option Operation). device.IsPlannedAs rules station.named live.rest.real asking.call.header.sequence plan.blocks which) f plan.asks)
 
