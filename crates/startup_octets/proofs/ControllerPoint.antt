@@ -121,7 +121,7 @@ module _ (setup : Setup) (station : Station) where
       still_before : IsBefore rules unended mac relation setup.activity run turns point link → NextHistory
       still_before before =
           let idle : next.controller ≡ small.Exchanges → ⊥ =
-          not_exchanging rules setup.plan.continue_on_refused_record (write_count setup.plan) _ point.controller next.controller on.moves before.idle (unready before.unready) in
+          not_exchanging rules rules.grants setup.plan.continue_on_refused_record (write_count setup.plan) _ point.controller next.controller on.moves before.idle (unready before.unready) in
           inl (record {
             unready = each_both _ before_sent turn.sent before.unready (each_so _ _ turn.sent no_ready nothing_sent);
             idle = idle;

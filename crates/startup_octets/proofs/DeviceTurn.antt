@@ -40,7 +40,7 @@ use Rattle.plans.specs.Connect.{ar_block}
 use Rattle.end_laws.specs.both.Small as small
 use Rattle.end_laws.specs.device.Does.{Connected, Does, Following, IsEffect, IsKeptOr, IsOther, IsRestarted, Parameterized, Plugging, Readying, Serves, readied_from}
 use Rattle.end_laws.specs.device.Orderly.{IsOrderlyIn}
-use Rattle.end_laws.specs.device.Small.{IsPlanned, IsPlannedAs, IsPlannedWrite, IsWritingOf, asked_by, heard_as, link_of, phase_in, written_by}
+use Rattle.end_laws.specs.device.Small.{IsPlanned, IsPlannedAs, IsPlannedWrite, IsWritingOf, asked_by, heard_as, link_of, number_in, phase_in, written_by}
 use Rattle.both_ends.specs.startup.View.{is_planned, rules_of, taken_for}
 use Rattle.both_ends.proofs.StartupHeard.{IsKnownHeard, known_activity}
 use Rattle.octets_law.specs.Octets.{Asking, Call, Nothing, Set, args_of, called, in_order, number, part, statuses, statuses_in}
@@ -302,7 +302,7 @@ module _ (undone : AreNotDone) (blocks_read : AreBlocksRead) (long : (block : Bl
       (came : (sequence : ℕ) (ask : small.Ask) → heard_as (is_planned setup) heard ≡ small.Call sequence ask → IsIn turn.came (sent_by false turns))
       (no_access : (sequence : ℕ) → heard_as (is_planned setup) heard ≡ small.Call sequence small.Accesses → ⊥)
       (planned : operation_of asked.header.operation ≡ Some operation.Write → is_planned setup asked.header.sequence blocks ≡ true
-      → IsPlannedWrite (rules_of setup station) station.named live.rest.real asked.header.sequence blocks) where
+      → IsPlannedWrite (rules_of setup station) station.named live.rest.real blocks) where
     asking_is : asking_at mac turn ≡ Call call.octets
     asking_is = call.asks
 
@@ -331,23 +331,18 @@ module _ (undone : AreNotDone) (blocks_read : AreBlocksRead) (long : (block : Bl
         taken_by [] (sym (ap (λ a. confirmed_by relation a turn.sent) asking_is
         ∙ other_call relation call.octets turn.sent (code which) (call.read.operation ∙ operation_number asked.header.operation which asks) other))
 
-    same_number : (n m : ℕ) → suc n ≡ m + 1 → m ≡ n
-    same_number n m e = omega (arith, e)
-
     -- The Writes of the plan, and what they ask for.
-    meant_writes : operation_of asked.header.operation ≡ Some operation.Write → (plan : IsOfPlan setup asked.header.sequence blocks) → is_planned setup asked.header.sequence blocks ≡ true
+    meant_writes : operation_of asked.header.operation ≡ Some operation.Write → (plan : IsOfPlan setup blocks) → is_planned setup asked.header.sequence blocks ≡ true
         → IsMeant undone blocks_read long setup station live.rest.real fit plan.number plan.listed live.rest.link (writing_blocks setup plan.number)
     meant_writes asks plan is writing e =
-        let it = planned asks is in
-        let number_is : it.number ≡ plan.number = same_number plan.number it.number (sym plan.numbered ∙ it.is) in
-        subst (λ (n : ℕ). IsWritingOf (rules_of setup station) station.named live.rest.real (uuid_of live.rest.link) n (map taken_for (group_of setup.plan plan.number)) writing) plan.numbered
-        (subst (λ (n : ℕ). IsWritingOf (rules_of setup station) station.named live.rest.real (uuid_of live.rest.link) asked.header.sequence (map taken_for (group_of setup.plan n)) writing) number_is
-        (it.keeps (uuid_of live.rest.link) writing (ap (writing_of (uuid_of live.rest.link) live.rest.real) plan.is ∙ e)))
+        subst (λ (n : ℕ). IsWritingOf (rules_of setup station) station.named live.rest.real (uuid_of live.rest.link) (suc n) (map taken_for (group_of setup.plan n)) writing)
+        plan.numbered
+        ((planned asks is).keeps (uuid_of live.rest.link) writing (ap (writing_of (uuid_of live.rest.link) live.rest.real) plan.is ∙ e))
 
     written : (octets : List ℕ) → operation_of asked.header.operation ≡ Some operation.Write → IsAnsweredSo call.octets turn.sent 0 (statuses_in 16 (drop 64 octets))
         → IsWriteEffect station.named live.rest.real blocks octets live.rest.link rest.link → (b : Bool) → is_planned setup asked.header.sequence blocks ≡ b → IsEarly mac relation (turns ++ turn ∷ []) rest.link
     written octets asks answered effect false is =
-        absurd (no_access asked.header.sequence (heard_is operation.Write asks ∙ ap (λ (b : Bool). written_by b asked.header.sequence) is))
+        absurd (no_access asked.header.sequence (heard_is operation.Write asks ∙ ap (λ (b : Bool). written_by b asked.header.sequence (number_in blocks)) is))
     written octets asks answered effect true is =
         let plan = planned_exact setup asked.header.sequence blocks is in
         let adds = write_adds undone blocks_read long setup station live.rest.real fit plan.number plan.listed octets live.rest.link rest.link (started_early mac relation turns live.rest.link early)

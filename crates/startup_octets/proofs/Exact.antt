@@ -1,5 +1,5 @@
 -- The calls of a controller, and the records that the blocks of its Writes carry, read at fixed places.
-use Rattle.std.proofs.Common.{◌≡◌, inl, inr, ◌≤◌, ◌<◌, ◌==◌, ◌+◌, ◌-◌, ◌*◌, ◌/◌, ℕ, zero, suc, true, false, List, [], ◌∷◌, ◌++◌, length, take, drop, map, replicate, nat_lt, nat_eq, Option, Some, None, refl, sym, ap, subst, ◌∙◌, arith, append_assoc}
+use Rattle.std.proofs.Common.{◌≡◌, inl, inr, ◌≤◌, ◌<◌, ◌==◌, ◌&&◌, ◌+◌, ◌-◌, ◌*◌, ◌/◌, ℕ, zero, suc, true, false, List, [], ◌∷◌, ◌++◌, length, take, drop, map, replicate, nat_lt, nat_eq, Option, Some, None, refl, sym, ap, subst, ◌∙◌, arith, append_assoc}
 use Rattle.std.proofs.lemmas.Bool.{and_parts, cond-false, cond-true, ltb-true, ne_eqb}
 use Rattle.std.proofs.lemmas.List.{append-nil, drop_at, length-append}
 use Rattle.std.specs.List.{AllByRecursion}
@@ -27,6 +27,7 @@ use Rattle.controller_messages.specs.RecordRequests.{record_blocks, service_oper
 use Rattle.controller_messages.specs.Requests.{blocks_of, call_for, control_of, entries_bytes, list_blocks, list_of, operation_of as number_for, padding_of, write_count, write_of, writing_blocks}
 use Rattle.end_laws.specs.hearing.Stations.{IsCalled}
 use Rattle.both_ends.specs.startup.Played.{IsParameter, IsPlaced}
+use Rattle.end_laws.specs.device.Small.{number_in as write_in}
 use Rattle.both_ends.specs.startup.View.{is_planned, taken_for}
 use Rattle.both_ends.proofs.StartupHeard.{IsKnownCall, IsListed}
 use Rattle.octets_law.specs.Octets.{number as number_in}
@@ -42,9 +43,9 @@ written_of taken = record { slot = taken.slot; subslot = taken.subslot; index = 
 
 module _ (setup : Setup) where
   -- The blocks of a Write are those of the plan's Write with a number.
-  pub record IsOfPlan (sequence : ℕ) (blocks : List ℕ) : Type 0 where
+  pub record IsOfPlan (blocks : List ℕ) : Type 0 where
     pub number : ℕ
-    pub numbered : sequence ≡ suc number
+    pub numbered : write_in blocks ≡ number
     pub listed : number < write_count setup.plan
     pub is : blocks ≡ writing_blocks setup number
 
@@ -70,17 +71,27 @@ module _ (setup : Setup) where
   own_exact asks.Connect called listed which is = subst (λ w. IsExact 0 w (connect_of setup.plan setup.ar)) (some_operation operation.Connect which is) refl
   own_exact (asks.Write number) called listed which is =
       subst (λ w. IsExact (number + 1) w (writing_blocks setup number)) (some_operation operation.Write which is) tt
+  own_exact (asks.WriteAfter number tries) called listed which is =
+      subst (λ w. IsExact (number + tries + 1) w (writing_blocks setup number)) (some_operation operation.Write which is) tt
+  own_exact (asks.PrmEndAfter tries) called listed which is =
+      subst (λ w. IsExact (write_count setup.plan + tries + 1) w (block_bytes (variant.PrmEnd (control_of setup 1)))) (some_operation operation.Control which is) refl
   own_exact asks.PrmEnd called listed which is =
       subst (λ w. IsExact (write_count setup.plan + 1) w (block_bytes (variant.PrmEnd (control_of setup 1)))) (some_operation operation.Control which is) refl
   own_exact (asks.Release sequence) called listed which is =
       subst (λ w. IsExact sequence w (block_bytes (variant.Release (control_of setup 4)))) (some_operation operation.Release which is) tt
 
   -- A Write of the plan.
-  pub planned_exact : (sequence : ℕ) (blocks : List ℕ) → is_planned setup sequence blocks ≡ true → IsOfPlan sequence blocks
-  planned_exact zero blocks e = absurd cc
-  planned_exact (suc number) blocks e =
-      let parts = and_parts (nat_lt number (write_count setup.plan)) (pointwise nat_eq blocks (writing_blocks setup number)) e in
-      record { number = number; numbered = refl; listed = ltb-true number (write_count setup.plan) parts.0; is = same_text blocks (writing_blocks setup number) (sym parts.1) }
+  pub planned_exact : (sequence : ℕ) (blocks : List ℕ) → is_planned setup sequence blocks ≡ true → IsOfPlan blocks
+  planned_exact sequence blocks e =
+      let number = write_in blocks in
+      let same = pointwise nat_eq blocks (writing_blocks setup number) in
+      let parts = and_parts (nat_lt number (write_count setup.plan)) (same && nat_lt number sequence) e in
+      record {
+        number = number;
+        numbered = refl;
+        listed = ltb-true number (write_count setup.plan) parts.0;
+        is = same_text blocks (writing_blocks setup number) (sym (and_parts same (nat_lt number sequence) parts.1).0);
+      }
 
   access_exact : (kind : RecordService) (sequence : ℕ) (blocks : List ℕ) (which : Operation) → operation_of (service_operation kind) ≡ Some which → IsExact sequence which blocks
   unfolding operation_of

@@ -1,5 +1,5 @@
 -- The call that ends the parameters of a place after its plug is no call of a start-up.
-use Rattle.std.proofs.Common.{◌≡◌, ◌⊎◌, inl, inr, ◌==◌, ◌&&◌, ℕ, Bool, true, false, cond, List, [], ◌∷◌, map, Some, refl, sym, ap, subst, ◌∙◌, arith}
+use Rattle.std.proofs.Common.{◌≡◌, ◌⊎◌, inl, inr, ◌==◌, ◌<◌, ◌&&◌, ℕ, Bool, true, false, cond, List, [], ◌∷◌, map, Some, refl, sym, ap, subst, ◌∙◌, arith}
 use Rattle.std.specs.List.{AllByRecursion}
 use Rattle.pn_values.specs.declared.identity.Identity.{Identity}
 use Rattle.pn_values.specs.declared.mac.Mac.{Mac}
@@ -19,10 +19,11 @@ use Rattle.device_core.specs.State.{Station}
 use Rattle.controller_messages.specs.declared.plug_request.PlugRequest.{PlugRequest}
 use Rattle.controller_messages.specs.declared.plug_request.PlugStep.{PlugStep}
 use Rattle.controller_messages.specs.declared.plug_request.PlugStep.TheVariants.{Record, PrmEnd}
+use Rattle.controller_messages.specs.declared.request.Request.{Request}
 use Rattle.controller_messages.specs.declared.request.Request.TheVariants as asks
 use Rattle.controller_messages.specs.declared.setup.Setup.{Setup}
 use Rattle.controller_messages.specs.PlugRequests.{plug_blocks, plug_call, plug_end, plug_operation}
-use Rattle.controller_messages.specs.Requests.{call_for, control_of, write_count}
+use Rattle.controller_messages.specs.Requests.{blocks_of, call_for, control_of, write_count}
 use Rattle.controller_messages.specs.Sent.{Sent, Requests, Accesses, Parametrizes, Agrees, Cycles, Confirms, Replies, Ends, bytes_of}
 use Rattle.end_laws.specs.both.Small as small
 use Rattle.end_laws.specs.both.Steps.{SaysToDevice}
@@ -95,22 +96,32 @@ same_call : (caller other : Caller) (address to : List ℕ) (one more : Called) 
 same_call caller other address to one more e = cc
 
 module _ (so : HeardSo) (setup : Setup) (station : Station) (good : IsSetup setup) where
-  -- PrmEnd of the start-up
+  -- a call of the start-up with the block of PrmEnd
+  heard_no_end : (request : Request) → blocks_of setup request ≡ block_bytes (variant.PrmEnd (control_of setup 1)) → (caller other : Caller) (address to : List ℕ)
+      (call : Called) → IsPlugEnd setup call → (b : Bool)
+      → cond b (Reported other to (Calls (call_for setup request))) Elsewhere ≡ Reported caller address (Calls call) → ⊥
+  heard_no_end request blocks caller other address to call it true e =
+      let same : call_for setup request ≡ plug_call setup it.request = same_call other caller to address (call_for setup request) call e ∙ it.is in
+      start_up_end setup good it.request.step it.request it.ends (sym blocks ∙ some_list _ _ (ap (λ (c : Called). c.blocks) same))
+  heard_no_end request blocks caller other address to call it false e = absurd cc
+
   own_end : (to : Mac) → IsMac to → IsNoPlugEnd setup station.identity (bytes_of setup (Requests to asks.PrmEnd))
   own_end to six caller address call is it =
-      by_own (is_own station.identity to && (calls_at setup.plan.station.suite.address).port == 34964)
+      heard_no_end asks.PrmEnd refl caller _ address _ call it (is_own station.identity to && (calls_at setup.plan.station.suite.address).port == 34964)
       (sym (so.call_at_device station.identity setup to (call_for setup asks.PrmEnd) good six (so.call_can setup asks.PrmEnd good tt tt)) ∙ is)
-    where
-      by_own : (b : Bool) → cond b (Reported (record { mac = setup.plan.controller.mac; endpoint = calls_at setup.plan.controller.address })
-          (calls_at setup.plan.station.suite.address).address (Calls (call_for setup asks.PrmEnd))) Elsewhere ≡ Reported caller address (Calls call) → ⊥
-      by_own true e =
-          let same : call_for setup asks.PrmEnd ≡ plug_call setup it.request = same_call _ _ _ _ (call_for setup asks.PrmEnd) call e ∙ it.is in
-          start_up_end setup good it.request.step it.request it.ends (some_list _ _ (ap (λ (c : Called). c.blocks) same))
-      by_own false e = absurd cc
+
+  own_end_after : (tries : ℕ) → tries < 65536 → (to : Mac) → IsMac to
+      → IsNoPlugEnd setup station.identity (bytes_of setup (Requests to (asks.PrmEndAfter tries)))
+  own_end_after tries few to six caller address call is it =
+      heard_no_end (asks.PrmEndAfter tries) refl caller _ address _ call it
+      (is_own station.identity to && (calls_at setup.plan.station.suite.address).port == 34964)
+      (sym (so.call_at_device station.identity setup to (call_for setup (asks.PrmEndAfter tries)) good six (so.call_can setup (asks.PrmEndAfter tries) good tt few)) ∙ is)
 
   says_no_end : (now : small.Controller) → (now ≡ small.Exchanges → ⊥) → (message : Sent) → IsAimedAt station.identity.mac message → SaysToDevice (write_count setup.plan) now (said_by setup.plan message)
       → (sequence : ℕ) → says_to_device setup message ≡ small.Call sequence small.Parameterized → IsNoPlugEnd setup station.identity (bytes_of setup message)
   says_no_end now not (Requests to asks.PrmEnd) aimed says sequence e = own_end to aimed.0
+  says_no_end now not (Requests to (asks.PrmEndAfter tries)) aimed says sequence e = own_end_after tries aimed.1 to aimed.0
+  says_no_end now not (Requests to (asks.WriteAfter which tries)) aimed says sequence e = absurd cc
   says_no_end now not (Requests to asks.Identify) aimed says sequence e = absurd cc
   says_no_end now not (Requests to asks.Address) aimed says sequence e = absurd cc
   says_no_end now not (Requests to asks.Connect) aimed says sequence e = absurd cc

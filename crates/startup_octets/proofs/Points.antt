@@ -65,13 +65,13 @@ pub record IsCallHeard (heard : Heard) (sequence : ℕ) : Type 0 where
 same_sequence : (one other : ℕ) (a b : small.Ask) → small.Call one a ≡ small.Call other b → one ≡ other
 same_sequence one other a b e = cc
 
-written_sequence : (b : Bool) (one other : ℕ) (ask : small.Ask) → written_by b one ≡ small.Call other ask → one ≡ other
-written_sequence true one other ask e = same_sequence one other _ ask e
-written_sequence false one other ask e = same_sequence one other _ ask e
+written_sequence : (b : Bool) (one write other : ℕ) (ask : small.Ask) → written_by b one write ≡ small.Call other ask → one ≡ other
+written_sequence true one write other ask e = same_sequence one other _ ask e
+written_sequence false one write other ask e = same_sequence one other _ ask e
 
 asked_sequence : (planned : Planned) (one other : ℕ) (blocks : List ℕ) (which : Option Operation) (ask : small.Ask) → asked_by planned one blocks which ≡ small.Call other ask → one ≡ other
 asked_sequence planned one other blocks (Some operation.Connect) ask e = same_sequence one other _ ask e
-asked_sequence planned one other blocks (Some operation.Write) ask e = written_sequence (planned one blocks) one other ask e
+asked_sequence planned one other blocks (Some operation.Write) ask e = written_sequence (planned one blocks) one _ other ask e
 asked_sequence planned one other blocks (Some operation.Control) ask e = same_sequence one other _ ask e
 asked_sequence planned one other blocks (Some operation.Release) ask e = same_sequence one other _ ask e
 asked_sequence planned one other blocks (Some operation.Read) ask e = same_sequence one other _ ask e

@@ -1,7 +1,7 @@
 -- What the frames of a step say to either end, as far as a start-up is concerned.
 use Rattle.std.proofs.Common.{◌≡◌, ◌⊎◌, ◌≤◌, ◌+◌, inl, inr, ℕ, Bool, List, [], ◌∷◌, ◌++◌, Option, Some, None, refl, sym, ap, subst, ◌∙◌}
 use Rattle.std.specs.List.{AllByRecursion}
-use Rattle.end_laws.specs.both.Small.{Ask, Accesses, Answers, Asking, Awaiting, Call, Confirms, Controller, Device, Exchanges, Idle, Kept, Readies, RelationState, Rules, ToController, ToDevice, Waiting}
+use Rattle.end_laws.specs.both.Small.{Accesses, Answers, Ask, Asking, Awaiting, Call, Confirms, Controller, Device, Exchanges, Idle, Kept, Readies, RelationState, Reply, Rules, ToController, ToDevice, Waiting}
 use Rattle.end_laws.specs.both.Steps.{CallsWhile, DeviceSteps, IsDull, IsReady, IsSameOrNone, Moves, SaysAtMost}
 
 pub each_both : {A : Type 0} (P : A → Type 0) (some more : List A) → AllByRecursion P some → AllByRecursion P more → AllByRecursion P (some ++ more)
@@ -24,9 +24,9 @@ module _ {T Q : Type 0} (rules : Rules T Q) where
   abbrev pub IsKeptFine : Option Kept → Type 0
   IsKeptFine kept = (answer : Kept) → kept ≡ Some answer → (rules.to_device answer.frame ≡ Idle) × (rules.to_controller answer.frame ≡ Readies → ⊥)
 
-  no_answer : (sequence : ℕ) (positive : Bool) (frame : List ℕ) → SaysAtMost rules (Answers sequence positive) frame → rules.to_controller frame ≡ Readies → ⊥
-  no_answer sequence positive frame (inl nothing) readies = let e = sym nothing ∙ readies in cc
-  no_answer sequence positive frame (inr answers) readies = let e = sym answers ∙ readies in cc
+  no_answer : (sequence : ℕ) (reply : Reply) (frame : List ℕ) → SaysAtMost rules (Answers sequence reply) frame → rules.to_controller frame ≡ Readies → ⊥
+  no_answer sequence reply frame (inl nothing) readies = let e = sym nothing ∙ readies in cc
+  no_answer sequence reply frame (inr answers) readies = let e = sym answers ∙ readies in cc
 
   dull_frame : (device : Device T Q) (frame : List ℕ) → IsDull rules frame → IsOfDevice device frame
   dull_frame device frame dull = record { idle = dull.0; ready = λ readies. absurd (let e = sym dull.1 ∙ readies in cc) }
@@ -53,7 +53,7 @@ module _ {T Q : Type 0} (rules : Rules T Q) where
   pub device_frames : (heard : ToDevice) (before after : Device T Q) (frames : List (List ℕ)) → DeviceSteps rules heard before after frames → IsKeptFine before.kept
       → AllByRecursion (IsOfDevice after) frames × IsKeptFine after.kept
   device_frames (Call sequence ask) before after frames (inl it) fine =
-      let no = no_answer sequence it.positive it.frame it.to_controller in
+      let no = no_answer sequence it.reply it.frame it.to_controller in
       let first : IsOfDevice after it.frame = record { idle = it.to_device; ready = λ readies. absurd (no readies) } in (
         subst (λ (l : List (List ℕ)). AllByRecursion (IsOfDevice after) l) (sym it.sent) (
           first,
@@ -79,7 +79,7 @@ module _ {T Q : Type 0} (rules : Rules T Q) where
   device_frames Idle before after frames (inl it) fine =
       (each_frame (λ frame. IsDull rules frame ⊎ IsReady rules after frame) after frames (either_frame after) it.sent, subst IsKeptFine (sym it.keeps) fine)
   device_frames Idle before after frames (inr it) fine =
-      let no = no_answer it.sequence it.positive it.frame it.to_controller in
+      let no = no_answer it.sequence it.reply it.frame it.to_controller in
       let last : IsOfDevice after it.frame = record { idle = it.to_device; ready = λ readies. absurd (no readies) } in (
         subst (λ (l : List (List ℕ)). AllByRecursion (IsOfDevice after) l) (sym it.sent)
             (each_both (IsOfDevice after) it.others (it.frame ∷ [])
@@ -147,17 +147,19 @@ module _ {T Q : Type 0} (rules : Rules T Q) where
   -- ---- the controller
 
   -- A controller that does not exchange data, and hears no ApplicationReady, does not exchange data afterwards.
-  pub not_exchanging : (skips : Bool) (count : ℕ) (heard : ToController) (before after : Controller) → Moves skips count heard before after → (before ≡ Exchanges → ⊥)
+  pub not_exchanging : (grants : ℕ → List ℕ → Bool) (skips : Bool) (count : ℕ) (heard : ToController) (before after : Controller)
+      → Moves grants skips count heard before after → (before ≡ Exchanges → ⊥)
       → (heard ≡ Readies → ⊥) → after ≡ Exchanges → ⊥
-  not_exchanging skips count heard before after (inl same) not silent e = not (sym same ∙ e)
-  not_exchanging skips count heard before after (inr (inl ended)) not silent e = let f = sym ended ∙ e in cc
-  not_exchanging skips count heard before after (inr (inr (inl asks))) not silent e = let f = sym asks ∙ e in cc
-  not_exchanging skips count heard before after (inr (inr (inr (inl next)))) not silent e = by_next next.becomes
+  not_exchanging grants skips count heard before after (inl same) not silent e = not (sym same ∙ e)
+  not_exchanging grants skips count heard before after (inr (inl ended)) not silent e = let f = sym ended ∙ e in cc
+  not_exchanging grants skips count heard before after (inr (inr (inl asks))) not silent e = let f = sym asks ∙ e in cc
+  not_exchanging grants skips count heard before after (inr (inr (inr (inl next)))) not silent e = by_next next.becomes
     where
-      by_next : ((next.sequence ≤ count) × (after ≡ Asking (next.sequence + 1))) ⊎ (after ≡ Waiting) → ⊥
+      by_next : ((next.stage ≤ count) × (after ≡ Asking (next.stage + 1) next.tries)) ⊎ (after ≡ Waiting) → ⊥
       by_next (inl asks) = let f = sym asks.1 ∙ e in cc
       by_next (inr waits) = let f = sym waits ∙ e in cc
-  not_exchanging skips count heard before after (inr (inr (inr (inr readies)))) not silent e = silent readies.0
+  not_exchanging grants skips count heard before after (inr (inr (inr (inr (inl readies))))) not silent e = silent readies.0
+  not_exchanging grants skips count heard before after (inr (inr (inr (inr (inr tried))))) not silent e = let f = sym tried.becomes ∙ e in cc
 
   -- Then its frames carry no call of the application.
   abbrev pub IsNoAccess : List ℕ → Type 0
@@ -165,5 +167,5 @@ module _ {T Q : Type 0} (rules : Rules T Q) where
 
   pub calls_no_access : (now : Controller) → (now ≡ Exchanges → ⊥) → (sequence : ℕ) → CallsWhile rules.count now sequence Accesses → ⊥
   calls_no_access now not sequence (inl releases) = cc
-  calls_no_access now not sequence (inr (inl asked)) = asked.1
+  calls_no_access now not sequence (inr (inl calling)) = calling.asked
   calls_no_access now not sequence (inr (inr accesses)) = not accesses.1
