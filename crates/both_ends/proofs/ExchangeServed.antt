@@ -1,9 +1,8 @@
 -- The response of a device to the first call of its controller: only the Connect may succeed, and then its blocks
 -- choose a suitable FrameID for outputs.
 use Rattle.std.proofs.Common.{◌≡◌, ◌<◌, ◌&&◌, inl, inr, ℕ, suc, Bool, true, false, List, [], ◌∷◌, Option, Some, None, Result, Ok, Err, sym, ap, subst, ◌∙◌, refl, arith}
-use Rattle.std.specs.Prelude.{nat_eq, nat_lt}
+use Rattle.std.specs.Prelude.{nat_eq, nat_lt, unwrap_or}
 use Rattle.std.specs.Cmp.Lexicographic.{pointwise}
-use Rattle.std.specs.Prelude.{unwrap_or}
 use Rattle.std.specs.List.{AllByRecursion}
 use Rattle.std.proofs.lemmas.Bool.{false≢true, ltb-true}
 use Rattle.frame_codec.specs.declared.udp.Caller.{Caller}
@@ -27,6 +26,7 @@ use Rattle.device_frames.specs.Sent.{Sent, Exchanges, CallAnswer, Again}
 use Rattle.device_core.specs.State.{Station, Live, Rest}
 use Rattle.device_core.specs.Handled.{answer_from, outcome_of}
 use Rattle.controller_messages.specs.declared.setup.Setup.{Setup}
+use Rattle.controller_messages.specs.Requests.{write_count, writing_blocks}
 use Rattle.connects.specs.answers.Connect.{found_in, is_whole, nothing}
 use Rattle.end_laws.specs.sending.Sized.{Found}
 use Rattle.end_laws.specs.device.Does.{Does, Following, Plugging, Readying, IsEffect, IsExchange, IsOther, Serves, readied_from}

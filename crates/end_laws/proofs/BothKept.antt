@@ -418,7 +418,7 @@ module _ {T Q : Type 0} (rules : Rules T Q) where
       abbrev answer : Option Kept
       answer = Some (record { sequence = sequence; frame = frame })
 
-      abbrev goes_release : ask ≡ Releases → (after ≡ link) ⊎ (after ≡ None)
+      goes_release : ask ≡ Releases → (after ≡ link) ⊎ (after ≡ None)
       goes_release is = released_now reply link after (subst (λ (a : Ask). Comes rules reply a link after) is comes)
 
       may : MayCome ask link after

@@ -112,7 +112,7 @@ module _ {T Q : Type 0} (rules : Rules T Q) where
           next = later;
           is_at = record {
             current = subst (λ (c : Controller). IsCurrent c later) (sym more.1) (omega (arith, there.0), omega (arith, there.1));
-            first = λ none. absurd cc;
+            first = λ none. absurd (omega (arith, none));
             behind = λ strict.
                 granted_took at.stage next.reply (subst (λ (n : ℕ). ((next.reply.done && rules.grants n next.reply.blocks) ≡ true) ⊎ (rules.skips ≡ true)) (sym there.0) next.granted)
                 there.3 (omega (arith, more.0, there.0)) strict;

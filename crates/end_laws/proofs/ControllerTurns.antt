@@ -128,7 +128,7 @@ module _ (setup : Setup) where
 
   -- what a pending request says of the state: the call that makes it, that its record exists, or that the relation has
   -- ended
-  abbrev Tells : State → Option Request → Request → Type 0
+  abbrev pub Tells : State → Option Request → Request → Type 0
   Tells phase asked asks.Identify = Unit {0}
   Tells phase asked asks.Address = Unit {0}
   Tells phase asked asks.Connect = state_of setup.plan phase asked ≡ small.Asking 0 0
@@ -194,7 +194,7 @@ module _ (setup : Setup) where
   tried_in_step Exchanging asked request next is stands e = absurd (none_stands request (sym is ∙ stands))
 
   -- the request that belongs to each state
-  tells : (phase : State) (asked : Option Request) → IsInStep setup.plan phase asked → (request : Request) → asked ≡ Some request → Tells phase asked request
+  pub tells : (phase : State) (asked : Option Request) → IsInStep setup.plan phase asked → (request : Request) → asked ≡ Some request → Tells phase asked request
   tells Looking asked in_step request stands = tells_so Looking asked asks.Identify request in_step tt stands
   tells Addressing asked in_step request stands = tells_so Addressing asked asks.Address request in_step tt stands
   tells Connecting asked in_step request stands =
@@ -208,11 +208,11 @@ module _ (setup : Setup) where
   -- ---- tries
 
   -- a call that is refused as busy is tried again in its stage, by the next call
-  record IsTry (before after : Controller) (sequence tries : ℕ) : Type 0 where
+  record IsTry (was now : Controller) (sequence tries : ℕ) : Type 0 where
     stage : ℕ
     later : 0 < stage
-    before : before ≡ small.Asking stage tries
-    after : after ≡ small.Asking stage (tries + 1)
+    before : was ≡ small.Asking stage tries
+    after : now ≡ small.Asking stage (tries + 1)
     number : sequence ≡ stage + tries
 
   abbrev IsTryOf : State → Option Request → Request → Request → Type 0
@@ -278,7 +278,7 @@ module _ (setup : Setup) where
       ltb-true tries 65535 (and_parts (is_busy status) (nat_lt tries 65535) parts.1).1
 
   -- the calls that are counted, while a call of the start-up is made
-  counted_is : (phase : State) (asked : Option Request) (request : Request) (calls stage tries : ℕ) → state_of setup.plan phase asked ≡ small.Asking stage tries
+  pub counted_is : (phase : State) (asked : Option Request) (request : Request) (calls stage tries : ℕ) → state_of setup.plan phase asked ≡ small.Asking stage tries
       → asked ≡ Some request → IsCounted phase asked calls → (calls ≡ tries_before request) × (calls < 65536)
   counted_is Looking asked request calls stage tries asking stands counted = (counted.0 ∙ ap tries_in stands, counted.1)
   counted_is Addressing asked request calls stage tries asking stands counted = (counted.0 ∙ ap tries_in stands, counted.1)
@@ -441,17 +441,17 @@ module _ (setup : Setup) where
       ∙ unless (nat_lt count count) (are_written setup.plan count blocks) (λ e. let below = ltb-true count count e in absurd (omega (arith, below)))
 
   -- an end of alarms, and an alarm that is stored, change nothing of a start-up
-  record IsAlike (live after : Live) : Type 0 where
-    phase : after.phase ≡ live.phase
-    asked : after.asked ≡ live.asked
-    waits : after.access.waiting ≡ live.access.waiting
-    plugs : after.access.plug ≡ live.access.plug
-    calls : after.access.calls ≡ live.access.calls
+  pub record IsAlike (live after : Live) : Type 0 where
+    pub phase : after.phase ≡ live.phase
+    pub asked : after.asked ≡ live.asked
+    pub waits : after.access.waiting ≡ live.access.waiting
+    pub plugs : after.access.plug ≡ live.access.plug
+    pub calls : after.access.calls ≡ live.access.calls
 
-  alike : (live : Live) → IsAlike live live
+  pub alike : (live : Live) → IsAlike live live
   alike live = record { phase = refl; asked = refl; waits = refl; plugs = refl; calls = refl }
 
-  end_alike : (live : Live) (priority : Priority) (end : ControllerEnd) → IsAlike live (with_end live priority end)
+  pub end_alike : (live : Live) (priority : Priority) (end : ControllerEnd) → IsAlike live (with_end live priority end)
   end_alike live High end = record { phase = refl; asked = refl; waits = refl; plugs = refl; calls = refl }
   end_alike live Low end = record { phase = refl; asked = refl; waits = refl; plugs = refl; calls = refl }
 
@@ -465,7 +465,7 @@ module _ (setup : Setup) where
   diagnosing_alike : (live after : Live) (report : Report) → IsAlike live after → IsAlike live (diagnosing report after)
   diagnosing_alike live after report is = record { phase = is.phase; asked = is.asked; waits = is.waits; plugs = is.plugs; calls = is.calls }
 
-  confirming_alike : (live after : Live) (report : Report) → IsAlike live after → IsAlike live (confirming after report)
+  pub confirming_alike : (live after : Live) (report : Report) → IsAlike live after → IsAlike live (confirming after report)
   confirming_alike live after report is =
       let acked = acking after report.priority (ack_of report.notification) in
       let kept = keeping acked report.priority (kept_alarm report.notification) report.user_structure in
@@ -696,6 +696,7 @@ module _ (setup : Setup) where
     release_in came_so (inr refused) = (refused.sequence, refused.stood)
 
     kind_goes : (kind : Kind) → IsKind setup live came kind → GoesOn setup.plan heard live (turn_by setup live kind)
+
     -- the Write after this one, because all its records were accepted, or although one was refused
     writes_on : (after : Live) (number : ℕ) (tries : Option ℕ) (response : Response) → live.asked ≡ Some (write_after number tries)
         → said_of came ≡ said_to setup (Responds response) → is_answer setup (write_after number tries) response.header ≡ true
