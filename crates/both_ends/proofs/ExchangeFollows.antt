@@ -63,7 +63,7 @@ use Rattle.end_laws.specs.both.Small.{Rules, ToDevice}
 use Rattle.end_laws.specs.both.Steps.{DeviceSteps, Forgets, GoesBy, IsSameOrNone}
 use Rattle.end_laws.specs.device.Orderly.{IsOrderlyIn}
 use Rattle.end_laws.specs.device.Owed.{IsOfKept, IsOwed}
-use Rattle.end_laws.specs.device.Small.{IsAskedOwn, IsHeardAs, IsPlanned, IsPlannedAs, IsPlannedCall, heard_as, kept_in, link_of, small_of}
+use Rattle.end_laws.specs.device.Small.{IsAskedOwn, IsHeardAs, IsPlanned, IsPlannedAs, IsPlannedCall, heard_as, kept_in, link_of, number_in, small_of}
 use Rattle.end_laws.specs.device.Small as ends
 use Rattle.both_ends.specs.startup.View.{IsSaidAs, is_planned, rules_of, says_to_device}
 use Rattle.both_ends.proofs.StartupEach.{each_of}
@@ -651,9 +651,9 @@ module _ (priority : Priority) (setup : Setup) (station : Station) (live : Live)
   said_heard reported other k there = tt
 
   -- the Connect of the controller is the call of number 0
-  written_first : (b : Bool) (number sequence : ℕ) → ends.written_by b number ≡ small.Call sequence small.Connects → ⊥
-  written_first true number sequence e = absurd cc
-  written_first false number sequence e = absurd cc
+  written_first : (b : Bool) (number which sequence : ℕ) → ends.written_by b number which ≡ small.Call sequence small.Connects → ⊥
+  written_first true number which sequence e = absurd cc
+  written_first false number which sequence e = absurd cc
 
   read_first : (number sequence : ℕ) → small.Call number small.Accesses ≡ small.Call sequence small.Connects → ⊥
   read_first number sequence e = absurd cc
@@ -663,7 +663,7 @@ module _ (priority : Priority) (setup : Setup) (station : Station) (live : Live)
       → ends.asked_by (is_planned setup) number blocks (operation_of (service_operation asked)) ≡ small.Call sequence small.Connects → ⊥
   unfolding operation_of
   access_first service.Read number blocks sequence e = read_first number sequence e
-  access_first service.Write number blocks sequence e = written_first (is_planned setup number blocks) number sequence e
+  access_first service.Write number blocks sequence e = written_first (is_planned setup number blocks) number (number_in blocks) sequence e
 
   ended_first : (number sequence : ℕ) → small.Call number small.Parameterized ≡ small.Call sequence small.Connects → ⊥
   ended_first number sequence e = absurd cc
@@ -672,7 +672,7 @@ module _ (priority : Priority) (setup : Setup) (station : Station) (live : Live)
   plug_first : (step : PlugStep) (number : ℕ) (blocks : List ℕ) (sequence : ℕ)
       → ends.asked_by (is_planned setup) number blocks (operation_of (plug_operation step)) ≡ small.Call sequence small.Connects → ⊥
   unfolding operation_of
-  plug_first (plug_step.Record which) number blocks sequence e = written_first (is_planned setup number blocks) number sequence e
+  plug_first (plug_step.Record which) number blocks sequence e = written_first (is_planned setup number blocks) number (number_in blocks) sequence e
   plug_first plug_step.PrmEnd number blocks sequence e = ended_first number sequence e
 
   first_said : (message : said.Sent) (sequence : ℕ) → says_to_device setup message ≡ small.Call sequence small.Connects → sequence ≡ 0

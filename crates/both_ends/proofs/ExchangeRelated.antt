@@ -79,17 +79,15 @@ module _ (setup : Setup) (good : IsSetup setup) where
   few_by true count few = omega (arith, few)
   few_by false count few = few
 
-  sequence_few : (plan : Parts) (calls : ℕ) (asked : Option Request) → IsPlan plan → AreFew asked → next_sequence plan calls asked < 4294967296
-  sequence_few plan calls (Some asks.Connect) is few = omega arith
-  sequence_few plan calls (Some (asks.Write number)) is few = omega (arith, few)
-  sequence_few plan calls (Some (asks.WriteAfter number tries)) is few = omega (arith, few.0, few.1)
-  sequence_few plan calls (Some (asks.PrmEndAfter tries)) is few =
-      omega (arith, few, few_by plan.multiple_write (length plan.records.items) is.few_records)
-  sequence_few plan calls other is few = mod-lt (write_count plan + 2 + calls) (omega arith)
+  sequence_few : (plan : Parts) (calls : ℕ) (asked : Option Request) → AreFew asked → next_sequence plan calls asked < 4294967296
+  sequence_few plan calls (Some asks.Connect) few = omega arith
+  sequence_few plan calls (Some (asks.Write number)) few = omega (arith, few)
+  sequence_few plan calls (Some (asks.WriteAfter number tries)) few = omega (arith, few.0, few.1)
+  sequence_few plan calls other few = mod-lt (write_count plan + 2 + calls) (omega arith)
 
   released_right : (why : Cause) (live : Live) → IsLive live → IsRight setup (released setup why live)
   released_right why live is =
-      asking_right (Ended why) (asks.Release (next_sequence setup.plan live.access.calls live.asked)) (over why live) (over_live why live is) (sequence_few setup.plan live.access.calls live.asked good.plan is.asked)
+      asking_right (Ended why) (asks.Release (next_sequence setup.plan live.access.calls live.asked)) (over why live) (over_live why live is) (sequence_few setup.plan live.access.calls live.asked is.asked)
 
   -- the next request is a Write, or PrmEnd
   picked_few : (number : ℕ) (b : Bool) → (b ≡ true → number < 32) → IsFew (cond b (asks.Write number) asks.PrmEnd)

@@ -1,9 +1,10 @@
 -- The response of a device to the first call of its controller: only the Connect may succeed, and then its blocks
 -- choose a suitable FrameID for outputs.
-use Rattle.std.proofs.Common.{◌≡◌, inl, inr, ℕ, suc, true, List, [], ◌∷◌, Option, Some, None, Result, Ok, Err, sym, ap, subst, ◌∙◌, refl}
-use Rattle.std.specs.Prelude.{unwrap_or}
+use Rattle.std.proofs.Common.{◌≡◌, ◌<◌, ◌&&◌, inl, inr, ℕ, suc, Bool, true, false, List, [], ◌∷◌, Option, Some, None, Result, Ok, Err, sym, ap, subst, ◌∙◌, refl, arith}
+use Rattle.std.specs.Prelude.{nat_eq, nat_lt, unwrap_or}
+use Rattle.std.specs.Cmp.Lexicographic.{pointwise}
 use Rattle.std.specs.List.{AllByRecursion}
-use Rattle.std.proofs.lemmas.Bool.{false≢true}
+use Rattle.std.proofs.lemmas.Bool.{false≢true, ltb-true}
 use Rattle.frame_codec.specs.declared.udp.Caller.{Caller}
 use Rattle.rpc_core.specs.Cache.{new, looked}
 use Rattle.rpc_core.specs.Call.{Asked as Call}
@@ -25,11 +26,12 @@ use Rattle.device_frames.specs.Sent.{Sent, Exchanges, CallAnswer, Again}
 use Rattle.device_core.specs.State.{Station, Live, Rest}
 use Rattle.device_core.specs.Handled.{answer_from, outcome_of}
 use Rattle.controller_messages.specs.declared.setup.Setup.{Setup}
+use Rattle.controller_messages.specs.Requests.{write_count, writing_blocks}
 use Rattle.connects.specs.answers.Connect.{found_in, is_whole, nothing}
 use Rattle.end_laws.specs.sending.Sized.{Found}
 use Rattle.end_laws.specs.device.Does.{Does, Following, Plugging, Readying, IsEffect, IsExchange, IsOther, Serves, readied_from}
 use Rattle.end_laws.specs.both.Small as small
-use Rattle.end_laws.specs.device.Small.{IsPlanned, IsPlannedAs, IsPlannedCall, asked_by, heard_as, written_by}
+use Rattle.end_laws.specs.device.Small.{IsPlanned, IsPlannedAs, IsPlannedCall, asked_by, heard_as, number_in, written_by}
 use Rattle.both_ends.specs.startup.View.{is_planned, rules_of}
 use Rattle.both_ends.specs.exchange.Sized.{IsChosenWell}
 use Rattle.both_ends.proofs.ExchangeLists.{each_behind, none_some, some_is}
@@ -85,9 +87,17 @@ module _ (setup : Setup) (station : Station) (live : Live) where
 
   -- the blocks of a response, by the outcome and the operation of its call
   -- a Write of number 0 is one of the application
-  written_zero : (sequence : ℕ) (blocks : List ℕ) → sequence ≡ 0 → written_by (is_planned setup sequence blocks) sequence ≡ small.Call sequence small.Accesses
+  written_zero : (sequence : ℕ) (blocks : List ℕ) → sequence ≡ 0 → written_by (is_planned setup sequence blocks) sequence (number_in blocks) ≡ small.Call sequence small.Accesses
   written_zero sequence blocks zero_is =
-      ap (λ (n : ℕ). written_by (is_planned setup n blocks) n) zero_is ∙ ap (λ (n : ℕ). small.Call n small.Accesses) (sym zero_is)
+      ap (λ (b : Bool). written_by b sequence (number_in blocks))
+      (none_earlier (nat_lt (number_in blocks) (write_count setup.plan)) (pointwise nat_eq blocks (writing_blocks setup (number_in blocks)))
+      (nat_lt (number_in blocks) sequence) (λ e. let below = ltb-true (number_in blocks) sequence e in absurd (omega (arith, below, zero_is))))
+    where
+      none_earlier : (a b c : Bool) → (c ≡ true → ⊥) → (a && (b && c)) ≡ false
+      none_earlier true true true never = absurd (never refl)
+      none_earlier true true false never = refl
+      none_earlier true false c never = refl
+      none_earlier false b c never = refl
 
   outcome_well : (caller : Caller) (sequence : ℕ) (blocks : List ℕ) (outcome : Result (List ℕ) CallFault) (which : Operation) (after : Option RelationState) → sequence ≡ 0 → live.rest.link ≡ None
       → (asked_by (is_planned setup) sequence blocks (Some which) ≡ small.Call sequence small.Accesses → ⊥)

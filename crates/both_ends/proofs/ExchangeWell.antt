@@ -17,8 +17,8 @@ use Rattle.controller_messages.specs.Heard.{heard_of as heard_by, is_to}
 use Rattle.controller_core.specs.start_up.Answers.{is_answer}
 use Rattle.end_laws.specs.hearing.Stations.{IsCaller, IsSetup}
 use Rattle.end_laws.specs.both.Small as small
-use Rattle.end_laws.specs.both.Small.{ToController}
-use Rattle.end_laws.specs.controller.Small.{is_positive, said_to, says_written}
+use Rattle.end_laws.specs.both.Small.{ToController, reply_of}
+use Rattle.end_laws.specs.controller.Small.{said_to}
 use Rattle.end_laws.specs.device.Small.{IsHeardAs}
 use Rattle.both_ends.specs.startup.View.{rules_of}
 use Rattle.both_ends.proofs.ExchangeLists.{holds_if}
@@ -42,30 +42,29 @@ module _ (setup : Setup) where
   zero_is response is =
       eqb-true response.header.sequence 0 (and_second (pointwise nat_eq response.header.activity setup.activity) (response.header.sequence == 0) is)
 
-  said_positive : (response : Response) → is_answer setup asks.Connect response.header ≡ true → is_done response.status ≡ true
-      → said_to setup (controller.Responds response) ≡ small.Answers 0 true
-  said_positive response is done =
-      ap (λ (b : Bool). cond b (small.Answers response.header.sequence (is_positive setup.plan response)) small.Nothing)
+  said_answer : (response : Response) → is_answer setup asks.Connect response.header ≡ true
+      → said_to setup (controller.Responds response) ≡ small.Answers 0 (reply_of response)
+  said_answer response is =
+      ap (λ (b : Bool). cond b (small.Answers response.header.sequence (reply_of response)) small.Nothing)
       (and_first (pointwise nat_eq response.header.activity setup.activity) (response.header.sequence == 0) is)
-      ∙ (ap (λ (n : ℕ). small.Answers n (is_done response.status && says_written setup.plan n response.blocks)) (zero_is response is)
-      ∙ ap (λ (b : Bool). small.Answers 0 (b && says_written setup.plan 0 response.blocks)) done)
+      ∙ ap (λ (n : ℕ). small.Answers n (reply_of response)) (zero_is response is)
 
-  -- what says nothing, or is not a positive response of this number, is not a positive response to the Connect
-  unanswered_well : (heard : controller.Heard) (says : ToController) → (says ≡ small.Answers 0 true → ⊥)
+  -- what says nothing, or is not a response of this number, is not a response to the Connect
+  unanswered_well : (heard : controller.Heard) (says : ToController) → ((reply : small.Reply) → says ≡ small.Answers 0 reply → ⊥)
       → (said_to setup heard ≡ small.Nothing) ⊎ (said_to setup heard ≡ says) → IsWell setup heard
-  unanswered_well (controller.Responds response) says other at_most = λ is done. absurd (by_saying (said_positive response is done) at_most)
+  unanswered_well (controller.Responds response) says other at_most = λ is done. absurd (by_saying (reply_of response) (said_answer response is) at_most)
     where
-      none_of : small.Nothing ≡ small.Answers 0 true → ⊥
-      none_of e = absurd cc
+      none_of : (reply : small.Reply) → small.Nothing ≡ small.Answers 0 reply → ⊥
+      none_of reply e = absurd cc
 
-      by_saying : said_to setup (controller.Responds response) ≡ small.Answers 0 true
+      by_saying : (reply : small.Reply) → said_to setup (controller.Responds response) ≡ small.Answers 0 reply
           → (said_to setup (controller.Responds response) ≡ small.Nothing) ⊎ (said_to setup (controller.Responds response) ≡ says) → ⊥
-      by_saying e (inl none) = none_of (sym none ∙ e)
-      by_saying e (inr same) = other (sym same ∙ e)
+      by_saying reply e (inl none) = none_of reply (sym none ∙ e)
+      by_saying reply e (inr same) = other reply (sym same ∙ e)
   unanswered_well another says other at_most = tt
 
   nothing_well : (heard : controller.Heard) → (said_to setup heard ≡ small.Nothing) ⊎ (said_to setup heard ≡ small.Nothing) → IsWell setup heard
-  nothing_well heard at_most = unanswered_well heard small.Nothing (λ e. absurd cc) at_most
+  nothing_well heard at_most = unanswered_well heard small.Nothing (λ reply e. absurd cc) at_most
 
 -- ---- what the device sends
 
@@ -86,7 +85,7 @@ module _ (so : HearsSo) (setup : Setup) (station : Station) (good : IsSetup setu
   message_well (sent.CallAnswer caller address answer) can meant served = answer_well caller address answer can served
   message_well (sent.Again frame) can meant served = tt
   message_well (sent.ReadyCall address ready) can meant served =
-      unanswered_well setup (heard_by setup.plan.controller (bytes_of station.identity (sent.ReadyCall address ready))) small.Readies (λ e. absurd cc) meant.1
+      unanswered_well setup (heard_by setup.plan.controller (bytes_of station.identity (sent.ReadyCall address ready))) small.Readies (λ reply e. absurd cc) meant.1
   message_well other can meant served = nothing_well setup _ meant.1
 
   pub all_well : (messages : List sent.Sent) → AllByRecursion (IsSendable station.identity) messages

@@ -1,5 +1,5 @@
 -- What either end hears of each message of the other.
-use Rattle.std.proofs.Common.{◌≡◌, ◌⊎◌, inl, inr, ◌<◌, ◌+◌, ◌-◌, ◌==◌, ◌&&◌, ◌||◌, ℕ, Bool, true, false, cond, List, [], ◌∷◌, length, Option, Some, None, Result, Ok, Err, refl, sym, ap, subst, ◌∙◌, add-one, arith}
+use Rattle.std.proofs.Common.{◌≡◌, ◌⊎◌, inl, inr, ◌<◌, ◌+◌, ◌==◌, ◌&&◌, ◌||◌, ℕ, Bool, true, false, cond, List, [], ◌∷◌, length, Option, Some, None, Result, Ok, Err, refl, sym, ap, subst, ◌∙◌, arith}
 use Rattle.std.specs.Prelude.{nat_eq, nat_lt}
 use Rattle.std.specs.List.{AllByRecursion}
 use Rattle.std.specs.Cmp.Lexicographic.{pointwise, same_text}
@@ -75,14 +75,14 @@ use Rattle.end_laws.specs.hearing.Hearing.{IsUncalled, IsUnreported, all_hears, 
 use Rattle.end_laws.specs.hearing.Stations.{IsAddress, IsCalled, IsCaller, IsDevice, IsNumbered, IsPlugCall, IsRecordCall, IsSetup, plug_ready_call, ready_call}
 use Rattle.end_laws.specs.sending.Addressed.{IsAimedAt, IsDirection, IsHeardFrom}
 use Rattle.end_laws.specs.both.Small as small
-use Rattle.end_laws.specs.both.Small.{ToController, ToDevice}
+use Rattle.end_laws.specs.both.Small.{ToController, ToDevice, reply_of}
 use Rattle.end_laws.specs.both.Steps.{CallsWhile, SaysToDevice}
-use Rattle.end_laws.specs.controller.Small.{asked_by, is_positive, readied_by, said_by, said_to}
+use Rattle.end_laws.specs.controller.Small.{asked_by, readied_by, said_by, said_to}
 use Rattle.end_laws.specs.device.Orderly.{IsOrderlyIn}
 use Rattle.end_laws.specs.device.Owed.{IsAnswering, IsOwed, IsReplying}
 use Rattle.end_laws.specs.device.Small as ends
-use Rattle.end_laws.specs.device.Small.{IsHeardAs, Planned, confirms, heard_as}
-use Rattle.both_ends.specs.startup.View.{IsSaidAs, is_planned, rules_of, says_to_device}
+use Rattle.end_laws.specs.device.Small.{IsHeardAs, Planned, confirms, heard_as, number_in}
+use Rattle.both_ends.specs.startup.View.{IsSaidAs, is_planned, is_write, rules_of, says_to_device}
 use Rattle.wire.proofs.Fields.{bind_ok}
 use Rattle.both_ends.proofs.StartupGiven.{HeardSo}
 
@@ -186,6 +186,10 @@ unfolding controller.heard_of
 six_heard sound mine octets = six_read sound mine octets (frame_of octets) refl
 
 -- ---- what a frame means to both ends, if it is one of a start-up
+
+-- the number of each Write of the plan is that of its blocks
+abbrev pub AreNumbered : Setup → Type 0
+AreNumbered setup = (number : ℕ) → number < write_count setup.plan → number_in (writing_blocks setup number) ≡ number
 
 -- a call that a device hears is one that the controller makes
 abbrev pub IsListed : Parts → Request → Type 0
@@ -368,11 +372,11 @@ module _ (so : HeardSo) (setup : Setup) (station : Station) (good : IsSetup setu
       let none : is_own identity destination ≡ false = other_mac destination identity.mac (λ same. apart (sym same ∙ is)) in
       ap (λ (b : Bool). cond (b && to.port == 34964) (device.Reported (record { mac = source; endpoint = from }) to.address reported) device.Elsewhere) none
 
-  answer_says : (answer : Response) → (said_to setup (controller.Responds answer) ≡ small.Nothing) ⊎ (said_to setup (controller.Responds answer) ≡ small.Answers answer.header.sequence (is_positive setup.plan answer))
+  answer_says : (answer : Response) → (said_to setup (controller.Responds answer) ≡ small.Nothing) ⊎ (said_to setup (controller.Responds answer) ≡ small.Answers answer.header.sequence (reply_of answer))
   answer_says answer = by_activity (pointwise nat_eq answer.header.activity setup.activity)
     where
-      by_activity : (b : Bool) → (cond b (small.Answers answer.header.sequence (is_positive setup.plan answer)) small.Nothing ≡ small.Nothing)
-          ⊎ (cond b (small.Answers answer.header.sequence (is_positive setup.plan answer)) small.Nothing ≡ small.Answers answer.header.sequence (is_positive setup.plan answer))
+      by_activity : (b : Bool) → (cond b (small.Answers answer.header.sequence (reply_of answer)) small.Nothing ≡ small.Nothing)
+          ⊎ (cond b (small.Answers answer.header.sequence (reply_of answer)) small.Nothing ≡ small.Answers answer.header.sequence (reply_of answer))
       by_activity true = inr refl
       by_activity false = inl refl
 
@@ -381,16 +385,16 @@ module _ (so : HeardSo) (setup : Setup) (station : Station) (good : IsSetup setu
 
   answer_met : (caller : Caller) (address : List ℕ) (answer : Response) → caller ≡ record { mac = mine.mac; endpoint = calls_at mine.address }
       → IsAddress address → CanBeAnswered answer
-      → IsMet (bytes_of identity (CallAnswer caller address answer)) (small.Answers answer.header.sequence (is_positive setup.plan answer))
+      → IsMet (bytes_of identity (CallAnswer caller address answer)) (small.Answers answer.header.sequence (reply_of answer))
   answer_met caller address answer caller_is four can =
       let calls : IsCaller caller = subst (λ (c : Caller). IsCaller c) (sym caller_is) (record { mac = good.mac; endpoint = (good.address, omega arith) }) in
-      met_by (bytes_of identity (CallAnswer caller address answer)) (small.Answers answer.header.sequence (is_positive setup.plan answer)) device.Elsewhere
+      met_by (bytes_of identity (CallAnswer caller address answer)) (small.Answers answer.header.sequence (reply_of answer)) device.Elsewhere
       (mine_reported mine caller.mac caller.endpoint (controller.Responds answer))
       (so.response_at_device identity identity caller address answer real calls four can
       ∙ elsewhere identity.mac caller.mac (calls_at address) caller.endpoint (device.Responds answer) (ap (λ (c : Caller). c.mac) caller_is))
       (so.response_at_controller mine identity caller address answer real calls four can) tt refl
       (mine_holds (λ (h : controller.Heard). IsHeardFrom identity.mac h) caller.mac caller.endpoint (controller.Responds answer) tt tt)
-      (mine_holds (AtMost (small.Answers answer.header.sequence (is_positive setup.plan answer))) caller.mac caller.endpoint (controller.Responds answer) (answer_says answer) (inl refl))
+      (mine_holds (AtMost (small.Answers answer.header.sequence (reply_of answer))) caller.mac caller.endpoint (controller.Responds answer) (answer_says answer) (inl refl))
 
   -- ---- ApplicationReady
 
@@ -488,7 +492,7 @@ module _ (so : HeardSo) (setup : Setup) (station : Station) (good : IsSetup setu
 
   -- what the controller may hear of a message
   abbrev pub says_of : Sent → ToController
-  says_of (CallAnswer caller address answer) = small.Answers answer.header.sequence (is_positive setup.plan answer)
+  says_of (CallAnswer caller address answer) = small.Answers answer.header.sequence (reply_of answer)
   says_of (ReadyCall address ready) = small.Readies
   says_of message = small.Nothing
 
@@ -561,30 +565,36 @@ module _ (so : HeardSo) (setup : Setup) (station : Station) (good : IsSetup setu
   same_list [] = refl
   same_list (x ∷ xs) = rw (eq-eqb x x refl) (same_list xs)
 
-  write_is_planned : (number : ℕ) → number < write_count setup.plan
-      → is_planned setup (number + 1) (writing_blocks setup number) ≡ true
-  write_is_planned number listed =
+  write_is_planned : AreNumbered setup → (sequence number : ℕ) → number < write_count setup.plan → number < sequence
+      → is_planned setup sequence (writing_blocks setup number) ≡ true
+  write_is_planned numbers sequence number listed later =
       let blocks = writing_blocks setup number in
-      ap (λ (s : ℕ). is_planned setup s blocks) (add-one number) ∙ both (nat_lt number (write_count setup.plan)) (pointwise nat_eq blocks blocks) (lt-ltb _ _ listed) (same_list blocks)
+      ap (λ (n : ℕ). is_write setup sequence blocks n) (numbers number listed)
+      ∙ both (nat_lt number (write_count setup.plan)) (pointwise nat_eq blocks blocks && nat_lt number sequence) (lt-ltb _ _ listed)
+      (both (pointwise nat_eq blocks blocks) (nat_lt number sequence) (same_list blocks) (lt-ltb _ _ later))
     where
       both : (a b : Bool) → a ≡ true → b ≡ true → (a && b) ≡ true
       both true b e f = f
       both false b e f = absurd cc
 
-  asked_is : (request : Request) → IsCalled request → IsListed setup.plan request
+  -- the Write with this number, by a call with a later sequence number
+  written_is : AreNumbered setup → (sequence number : ℕ) → number < write_count setup.plan → number < sequence
+      → ends.written_by (planned sequence (writing_blocks setup number)) sequence (number_in (writing_blocks setup number)) ≡ small.Call sequence (small.Writes number)
+  written_is numbers sequence number listed later =
+      ap (λ (b : Bool). ends.written_by b sequence (number_in (writing_blocks setup number))) (write_is_planned numbers sequence number listed later)
+      ∙ ap (λ (n : ℕ). small.Call sequence (small.Writes n)) (numbers number listed)
+
+  asked_is : AreNumbered setup → (request : Request) → IsCalled request → IsListed setup.plan request
       → ends.asked_by planned (sequence_of setup.plan request) (blocks_of setup request) (operation_of (call_for setup request).header.operation) ≡ asked_by setup.plan request
   unfolding operation_of
-  asked_is asks.Identify called listed = absurd called
-  asked_is asks.Address called listed = absurd called
-  asked_is asks.Connect called listed = refl
-  asked_is (asks.Write number) called listed =
-      let same : (number + 1) - 1 ≡ number = omega arith in
-      ap (λ (b : Bool). ends.written_by b (number + 1)) (write_is_planned number listed) ∙ ap (λ (n : ℕ). small.Call (number + 1) (small.Writes n)) same
-  asked_is asks.PrmEnd called listed = refl
-  asked_is (asks.PrmEndAfter tries) called listed = refl
-  -- OPEN: a Write is known by its sequence number
-  asked_is (asks.WriteAfter number tries) called listed = ?
-  asked_is (asks.Release sequence) called listed = refl
+  asked_is numbers asks.Identify called listed = absurd called
+  asked_is numbers asks.Address called listed = absurd called
+  asked_is numbers asks.Connect called listed = refl
+  asked_is numbers (asks.Write number) called listed = written_is numbers (number + 1) number listed (omega arith)
+  asked_is numbers asks.PrmEnd called listed = refl
+  asked_is numbers (asks.PrmEndAfter tries) called listed = refl
+  asked_is numbers (asks.WriteAfter number tries) called listed = written_is numbers (number + tries + 1) number listed (omega arith)
+  asked_is numbers (asks.Release sequence) called listed = refl
 
   -- a call to the device, of the start-up, of the application or after a plug
   known_reported : (to : Mac) (call : Call) (says : ToDevice) → IsMac to → CanBeCalled devices call
@@ -598,11 +608,11 @@ module _ (so : HeardSo) (setup : Setup) (station : Station) (good : IsSetup setu
       (own_holds (λ (h : Heard). (heard_as planned h ≡ says) ⊎ (heard_as planned h ≡ small.Idle)) mine.mac to from to_end (device.Calls call) (inl is) (inr refl))
       tt refl
 
-  call_reported : (to : Mac) (request : Request) → IsMac to → IsCalled request → IsNumbered request → IsListed setup.plan request
+  call_reported : AreNumbered setup → (to : Mac) (request : Request) → IsMac to → IsCalled request → IsNumbered request → IsListed setup.plan request
       → IsReported (call_frame setup to (call_for setup request)) (asked_by setup.plan request)
-  call_reported to request six called numbered listed =
+  call_reported numbers to request six called numbered listed =
       known_reported to (call_for setup request) (asked_by setup.plan request) six (so.call_can setup request good called numbered)
-      (inl (record { request = request; called = called; numbered = numbered; listed = listed; is = refl; caller_is = refl })) (asked_is request called listed)
+      (inl (record { request = request; called = called; numbered = numbered; listed = listed; is = refl; caller_is = refl })) (asked_is numbers request called listed)
 
   access_reported : (to : Mac) (request : RecordRequest) (octets : List ℕ) → IsMac to → IsRecordCall request octets
       → IsReported (call_frame setup to (record_call setup request octets)) (ends.said_to planned (device.Calls (record_call setup request octets)))
@@ -640,7 +650,7 @@ module _ (so : HeardSo) (setup : Setup) (station : Station) (good : IsSetup setu
   -- a record that is written now is one of the plan
   is_listed : (now : small.Controller) (sequence number : ℕ) → CallsWhile (write_count setup.plan) now sequence (small.Writes number) → number < write_count setup.plan
   is_listed now sequence number (inl releases) = absurd cc
-  is_listed now sequence number (inr (inl asked)) = asked.1.0
+  is_listed now sequence number (inr (inl asked)) = asked.asked.0
   is_listed now sequence number (inr (inr accesses)) = absurd (not_access number accesses.0)
     where
       not_access : (n : ℕ) → small.Writes n ≡ small.Accesses → ⊥
@@ -650,29 +660,29 @@ module _ (so : HeardSo) (setup : Setup) (station : Station) (good : IsSetup setu
   tag_sized route High aimed = aimed.alarm_tag
   tag_sized route Low aimed = omega arith
 
-  message_reported : (now : small.Controller) (message : said.Sent) → IsAimedAt identity.mac message → SaysToDevice (write_count setup.plan) now (said_by setup.plan message)
+  message_reported : AreNumbered setup → (now : small.Controller) (message : said.Sent) → IsAimedAt identity.mac message → SaysToDevice (write_count setup.plan) now (said_by setup.plan message)
       → IsReported (said.bytes_of setup message) (says_to_device setup message)
-  message_reported now (said.Requests to asks.Identify) aimed says = data_reported identify_multicast None _ _ small.Idle multicast_six tt
-  message_reported now (said.Requests to asks.Address) aimed says = data_reported to None _ _ small.Idle aimed.0 tt
-  message_reported now (said.Requests to asks.Connect) aimed says = call_reported to asks.Connect aimed.0 tt tt tt
-  message_reported now (said.Requests to (asks.Write number)) aimed says = call_reported to (asks.Write number) aimed.0 tt aimed.1 (is_listed now (number + 1) number says)
-  message_reported now (said.Requests to asks.PrmEnd) aimed says = call_reported to asks.PrmEnd aimed.0 tt tt tt
-  message_reported now (said.Requests to (asks.PrmEndAfter tries)) aimed says = call_reported to (asks.PrmEndAfter tries) aimed.0 tt aimed.1 tt
-  message_reported now (said.Requests to (asks.WriteAfter number tries)) aimed says = call_reported to (asks.WriteAfter number tries) aimed.0 tt aimed.1 (is_listed now (number + tries + 1) number says)
-  message_reported now (said.Requests to (asks.Release sequence)) aimed says = call_reported to (asks.Release sequence) aimed.0 tt aimed.1 tt
-  message_reported now (said.Accesses to request octets) aimed says = access_reported to request octets aimed.0 aimed.1
-  message_reported now (said.Parametrizes to request) aimed says = plugged_reported to request aimed.0 aimed.1
-  message_reported now (said.Agrees caller answer) aimed says = agrees_reported caller answer aimed.0 aimed.1 aimed.2
-  message_reported now (said.Cycles route shown counter) aimed says = data_reported route.partner (Some route.sent_tag) _ _ small.Idle aimed.partner aimed.sent_tag
-  message_reported now (said.Confirms route priority header ack) aimed says = data_reported route.partner (Some (tag_of route priority)) _ _ small.Idle aimed.partner (tag_sized route priority aimed)
-  message_reported now (said.Replies route priority header) aimed says = data_reported route.partner (Some (tag_of route priority)) _ _ small.Idle aimed.partner (tag_sized route priority aimed)
-  message_reported now (said.Ends route header reason) aimed says = data_reported route.partner (Some alarm_block.tag_header_low) _ _ small.Idle aimed.partner (omega arith)
+  message_reported numbers now (said.Requests to asks.Identify) aimed says = data_reported identify_multicast None _ _ small.Idle multicast_six tt
+  message_reported numbers now (said.Requests to asks.Address) aimed says = data_reported to None _ _ small.Idle aimed.0 tt
+  message_reported numbers now (said.Requests to asks.Connect) aimed says = call_reported numbers to asks.Connect aimed.0 tt tt tt
+  message_reported numbers now (said.Requests to (asks.Write number)) aimed says = call_reported numbers to (asks.Write number) aimed.0 tt aimed.1 (is_listed now (number + 1) number says)
+  message_reported numbers now (said.Requests to asks.PrmEnd) aimed says = call_reported numbers to asks.PrmEnd aimed.0 tt tt tt
+  message_reported numbers now (said.Requests to (asks.PrmEndAfter tries)) aimed says = call_reported numbers to (asks.PrmEndAfter tries) aimed.0 tt aimed.1 tt
+  message_reported numbers now (said.Requests to (asks.WriteAfter number tries)) aimed says = call_reported numbers to (asks.WriteAfter number tries) aimed.0 tt aimed.1 (is_listed now (number + tries + 1) number says)
+  message_reported numbers now (said.Requests to (asks.Release sequence)) aimed says = call_reported numbers to (asks.Release sequence) aimed.0 tt aimed.1 tt
+  message_reported numbers now (said.Accesses to request octets) aimed says = access_reported to request octets aimed.0 aimed.1
+  message_reported numbers now (said.Parametrizes to request) aimed says = plugged_reported to request aimed.0 aimed.1
+  message_reported numbers now (said.Agrees caller answer) aimed says = agrees_reported caller answer aimed.0 aimed.1 aimed.2
+  message_reported numbers now (said.Cycles route shown counter) aimed says = data_reported route.partner (Some route.sent_tag) _ _ small.Idle aimed.partner aimed.sent_tag
+  message_reported numbers now (said.Confirms route priority header ack) aimed says = data_reported route.partner (Some (tag_of route priority)) _ _ small.Idle aimed.partner (tag_sized route priority aimed)
+  message_reported numbers now (said.Replies route priority header) aimed says = data_reported route.partner (Some (tag_of route priority)) _ _ small.Idle aimed.partner (tag_sized route priority aimed)
+  message_reported numbers now (said.Ends route header reason) aimed says = data_reported route.partner (Some alarm_block.tag_header_low) _ _ small.Idle aimed.partner (omega arith)
 
-  pub all_reported : (now : small.Controller) (messages : List said.Sent) → AllByRecursion (IsAimedAt identity.mac) messages
+  pub all_reported : AreNumbered setup → (now : small.Controller) (messages : List said.Sent) → AllByRecursion (IsAimedAt identity.mac) messages
       → AllByRecursion (λ message. SaysToDevice (write_count setup.plan) now (said_by setup.plan message)) messages
       → AllByRecursion (λ message. IsReported (said.bytes_of setup message) (says_to_device setup message)) messages
-  all_reported now [] aimed says = tt
-  all_reported now (message ∷ messages) aimed says = (message_reported now message aimed.0 says.0, all_reported now messages aimed.1 says.1)
+  all_reported numbers now [] aimed says = tt
+  all_reported numbers now (message ∷ messages) aimed says = (message_reported numbers now message aimed.0 says.0, all_reported numbers now messages aimed.1 says.1)
 
   pub all_said : (messages : List said.Sent) → AllByRecursion (λ message. IsReported (said.bytes_of setup message) (says_to_device setup message)) messages
       → AllByRecursion (IsSaidAs setup station) messages

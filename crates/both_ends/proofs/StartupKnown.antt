@@ -56,7 +56,7 @@ use Rattle.both_ends.proofs.StartupEach.{each_at, each_behind, each_of, some_is}
 use Rattle.both_ends.proofs.StartupAsked.{none_question}
 use Rattle.both_ends.proofs.StartupGiven.{GoesSo, HeardSo}
 use Rattle.both_ends.proofs.StartupHeard.{IsKnown, IsKnownAsked, IsKnownCall, IsKnownHeard, IsKnownQuestion, IsMetAs, IsPlans, IsReported, all_heard, all_met, all_said, all_reported, known_activity, opening_reported}
-use Rattle.both_ends.proofs.StartupPlanned.{IsGood, count_few, heard_planned}
+use Rattle.both_ends.proofs.StartupPlanned.{IsGood, count_few, heard_planned, number_is}
 use Rattle.both_ends.proofs.StartupRuns.{InStep, controller_is, delivered, happens_steps, last_viewed, rules_at}
 
 -- the premises about both ends
@@ -222,7 +222,8 @@ module _ (so : HeardSo) (goes : GoesSo) where
           (turn_of setup before.controller.live event).sent
       reported =
           let turn = turn_of setup before.controller.live event in
-          all_reported so setup station can.setup_is can.device_is can.apart (small_of setup.plan turn.live) turn.sent
+          all_reported so setup station can.setup_is can.device_is can.apart
+          (λ number listed. number_is so.block_read so.block_long setup station before.device.live.rest.real can.good can.unnamed number listed) (small_of setup.plan turn.live) turn.sent
           (goes.aimed station.identity.mac setup before.controller.live event can.setup_is holds.aimed from).1
           (goes.controller_on setup before.controller.live event in_step).says
 

@@ -1,6 +1,6 @@
 -- A list of records that the controller writes: the device reads it as these records, and the controller reads the outcomes
 -- of the records in the response.
-use Rattle.std.proofs.Common.{◌≡◌, ◌<◌, ◌≤◌, ◌+◌, ◌-◌, ◌*◌, ◌/◌, ◌%◌, ◌&&◌, ◌==◌, ℕ, zero, suc, Bool, true, false, cond, List, [], ◌∷◌, ◌++◌, length, take, drop, map, Option, Some, None, Result, refl, sym, ap, subst, ◌∙◌, append_assoc, add-one, arith}
+use Rattle.std.proofs.Common.{◌≡◌, ◌<◌, ◌≤◌, ◌+◌, ◌-◌, ◌*◌, ◌/◌, ◌%◌, ◌&&◌, ◌==◌, ℕ, zero, suc, Bool, true, false, cond, List, [], ◌∷◌, ◌++◌, length, take, drop, map, Option, Some, None, Result, refl, sym, ap, subst, ◌∙◌, append_assoc, arith}
 use Rattle.std.specs.Prelude.{nat_lt, replicate}
 use Rattle.std.specs.List.{AllByRecursion}
 use Rattle.std.proofs.lemmas.Bool.{and_parts, eq-eqb, eqb-true, lt-ltb, ltb-true}
@@ -43,6 +43,12 @@ take_few zero [] = omega arith
 take_few zero (x ∷ xs) = omega arith
 take_few (suc n) [] = omega arith
 take_few (suc n) (x ∷ xs) = omega (arith, take_few n xs)
+
+-- of a list that is not empty some are taken
+pub take_some : {A : Type 0} (n : ℕ) (xs : List A) → 0 < n → 0 < length xs → 0 < length (take n xs)
+take_some zero xs none some = absurd (omega (arith, none))
+take_some (suc n) [] none some = absurd (omega (arith, some))
+take_some (suc n) (x ∷ xs) none some = omega arith
 
 take_long : {A : Type 0} (n : ℕ) (xs : List A) → n ≤ length xs → length (take n xs) ≡ n
 take_long zero [] enough = refl
@@ -294,10 +300,10 @@ module _ (read : (block_is : Block) (rest : List ℕ) → CanBeWritten block_is 
       (sym (ap (λ (x : Option (Status × List ℕ)). is_all_written (outcomes_behind x (length entries))) there) ∙ all)
 
 -- what a positive response to a Write of several records says
-pub says_all : (setup : Setup) (number : ℕ) → setup.plan.multiple_write ≡ true → number < write_count setup.plan → (blocks : List ℕ) → says_written setup.plan (number + 1) blocks ≡ true
+pub says_all : (setup : Setup) (number : ℕ) → setup.plan.multiple_write ≡ true → number < write_count setup.plan → (blocks : List ℕ) → says_written setup.plan (suc number) blocks ≡ true
     → is_all_written (outcomes_behind (outcome_at blocks) (length (group_of setup.plan number))) ≡ true
 says_all setup number several listed blocks says =
     let inside : nat_lt number (write_count setup.plan) ≡ true = lt-ltb number (write_count setup.plan) listed in
     let written : are_written setup.plan number blocks ≡ true =
-    sym (ap (λ (s : ℕ). says_written setup.plan s blocks) (add-one number) ∙ ap (λ (b : Bool). cond b (are_written setup.plan number blocks) true) inside) ∙ says in
+    sym (ap (λ (b : Bool). cond b (are_written setup.plan number blocks) true) inside) ∙ says in
     sym (ap (λ (b : Bool). is_all_written (cond b (outcomes_behind (outcome_at blocks) (length (group_of setup.plan number))) AllWritten)) several) ∙ written

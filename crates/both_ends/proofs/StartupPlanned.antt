@@ -1,5 +1,5 @@
 -- Each call that a device hears is one of the start-up or of the application.
-use Rattle.std.proofs.Common.{◌≡◌, inl, inr, ◌<◌, ◌≤◌, ◌+◌, ◌*◌, ◌/◌, ◌&&◌, ◌==◌, ℕ, zero, suc, Bool, true, false, not, cond, List, [], ◌∷◌, ◌++◌, length, take, drop, map, Option, Some, None, Result, Ok, Err, refl, sym, ap, subst, ◌∙◌, add-one, arith}
+use Rattle.std.proofs.Common.{◌≡◌, inl, inr, ◌<◌, ◌≤◌, ◌+◌, ◌*◌, ◌/◌, ◌&&◌, ◌==◌, ℕ, zero, suc, Bool, true, false, not, cond, List, [], ◌∷◌, ◌++◌, length, take, drop, map, Option, Some, None, Result, Ok, Err, refl, sym, ap, subst, ◌∙◌, length-drop, arith}
 use Rattle.std.specs.Prelude.{is_some, nat_eq, nat_lt, slice_get}
 use Rattle.std.specs.Cmp.Lexicographic.{pointwise, same_text}
 use Rattle.std.specs.List.{AllByRecursion, find}
@@ -75,12 +75,12 @@ use Rattle.controller_core.specs.start_up.Outcomes.{is_all_written, outcome_at, 
 use Rattle.end_laws.specs.hearing.Stations.{IsCalled}
 use Rattle.end_laws.specs.both.Small.{Rules}
 use Rattle.end_laws.specs.controller.Small.{says_written}
-use Rattle.end_laws.specs.device.Small.{AreKeeping, IsPlanned, IsPlannedAs, IsPlannedCall, IsPlannedIn, IsPlannedWrite, IsWritingOf}
+use Rattle.end_laws.specs.device.Small.{AreKeeping, IsPlanned, IsPlannedAs, IsPlannedCall, IsPlannedIn, IsPlannedWrite, IsWritingOf, number_by, number_in}
 use Rattle.both_ends.specs.startup.Played.{ArePlaced, AreUnnamed, IsParameter, IsPlaced, IsUnnamed}
 use Rattle.both_ends.specs.startup.View.{is_planned, rules_of, taken_for}
 use Rattle.wire.proofs.Fields.{bind_ok, ok_is}
 use Rattle.both_ends.proofs.StartupEach.{each_at, some_is}
-use Rattle.both_ends.proofs.StartupLists.{AreWritable, each_drop, each_take, list_can, list_done, list_read, listed, says_all, take_few}
+use Rattle.both_ends.proofs.StartupLists.{AreWritable, each_drop, each_take, list_can, list_done, list_read, listed, says_all, take_few, take_some}
 use Rattle.both_ends.proofs.StartupHeard.{IsKnownCall, IsKnownHeard, IsKnownSaid, IsListed}
 
 -- if no earlier judgement fails, the rest decides
@@ -377,8 +377,61 @@ module _ (read : (block : Block) (rest : List ℕ) → CanBeWritten block → bl
     abbrev group : List PlanRecord
     group = group_of setup.plan number
 
+    -- SeqNumber of its first block is one more than the number of the Write
+    number_read : (asked : IodWriteReq) (rest : List ℕ) → asked.header.seq_number ≡ number + 1 → CanBeWritten (variant.IodWriteReq asked)
+        → number_in (block_bytes (variant.IodWriteReq asked) ++ rest) ≡ number
+    number_read asked rest is can = ap number_by (read (variant.IodWriteReq asked) rest can) ∙ omega (arith, is)
+
+    one_number : setup.plan.multiple_write ≡ false → number_in (writing_blocks setup number) ≡ number
+    one_number alone =
+        let inside : number < length records =
+        subst (λ (count : ℕ). number < count) (ap (λ (b : Bool). cond b ((length records + 9) / 10) (length records)) alone) listed in
+        let there = there_is records number inside in
+        let entry = there.0 in
+        let can = record_can number listed entry (each_at IsParameter records number entry good.records there.1) (each_at IsPlaced records number entry good.placed there.1)
+        (each_at (λ (e : PlanRecord). length e.data.items ≤ 64) records number entry good.short there.1) in
+        let blocks : writing_blocks setup number ≡ write_blocks setup number (Some entry) =
+        ap (λ (b : Bool). cond b (list_blocks setup number group) (write_blocks setup number (slice_get records number))) alone
+        ∙ ap (λ (o : Option PlanRecord). write_blocks setup number o) there.1 in
+        ap number_in blocks ∙ number_read (write_asked setup number entry) entry.data.items refl can
+
+    list_number : (entries : List PlanRecord) → 0 < length entries → IsRecord (list_asked setup number (length (entries_bytes setup number entries))).header
+        → number_in (list_blocks setup number entries) ≡ number
+    list_number [] some sized = absurd (omega (arith, some))
+    list_number (entry ∷ entries) some sized =
+        let octets = entries_bytes setup number (entry ∷ entries) in
+        number_read (list_asked setup number (length octets)) octets refl (record { header = sized })
+
+    lists_number : setup.plan.multiple_write ≡ true → number_in (writing_blocks setup number) ≡ number
+    lists_number several =
+        let start = first_of setup.plan number in
+        let each = per_call setup.plan in
+        let blocks : writing_blocks setup number ≡ list_blocks setup number group =
+        ap (λ (b : Bool). cond b (list_blocks setup number group) (write_blocks setup number (slice_get records number))) several in
+        let short = each_take (λ (e : PlanRecord). length e.data.items ≤ 64) each (drop start records)
+        (each_drop (λ (e : PlanRecord). length e.data.items ≤ 64) start records good.short) in
+        let ten : each ≡ 10 = ap (λ (b : Bool). cond b 10 1) several in
+        let at : start ≡ number * 10 = ap (λ (b : Bool). cond b (number * 10) number) several in
+        let inside : number < (length records + 9) / 10 =
+        subst (λ (count : ℕ). number < count) (ap (λ (b : Bool). cond b ((length records + 9) / 10) (length records)) several) listed in
+        let few : length group ≤ 10 = omega (arith, take_few each (drop start records), ten) in
+        let some : 0 < length group = take_some each (drop start records) (omega (arith, ten)) (omega (arith, at, inside, length-drop start records)) in
+        ap number_in blocks ∙ list_number group some (list_can read setup number long group good.named (omega (arith, listed, good.few)) few short)
+
+    pub number_is : number_in (writing_blocks setup number) ≡ number
+    number_is = by_kind setup.plan.multiple_write refl
+      where
+        by_kind : (b : Bool) → setup.plan.multiple_write ≡ b → number_in (writing_blocks setup number) ≡ number
+        by_kind true several = lists_number several
+        by_kind false alone = one_number alone
+
+    -- what the Write asks for, by the number of its blocks
+    numbered_writing : (standing : Option (List ℕ)) (writing : Writing) → IsWritingOf rules named real standing (suc number) (rules.group number) writing
+        → IsWritingOf rules named real standing (suc (number_in (writing_blocks setup number))) (rules.group (number_in (writing_blocks setup number))) writing
+    numbered_writing standing writing is = subst (λ (n : ℕ). IsWritingOf rules named real standing (suc n) (rules.group n) writing) (sym number_is) is
+
     -- a Write that carries one record
-    one_planned : setup.plan.multiple_write ≡ false → IsPlannedWrite rules named real (number + 1) (writing_blocks setup number)
+    one_planned : setup.plan.multiple_write ≡ false → IsPlannedWrite rules named real (writing_blocks setup number)
     one_planned alone =
         let inside : number < length records =
         subst (λ (count : ℕ). number < count) (ap (λ (b : Bool). cond b ((length records + 9) / 10) (length records)) alone) listed in
@@ -393,13 +446,11 @@ module _ (read : (block : Block) (rest : List ℕ) → CanBeWritten block → bl
         let is_one : group ≡ entry ∷ [] =
         ap (λ (b : Bool). take (cond b 10 1) (drop (cond b (number * 10) number) records)) alone ∙ one_at records number entry there.1 in
         record {
-          number = number;
-          is = refl;
           keeps = λ standing writing e.
               let keeping = write_is setup real number entry below (λ rest. read (variant.IodWriteReq (write_asked setup number entry)) rest (record_can number listed entry below fits short))
               standing writing (subst (λ (b : List ℕ). writing_of standing real b ≡ Ok writing) blocks e) in
-              subst (λ (w : Writing). IsWritingOf rules named real standing (number + 1) (map taken_for group) w) (sym keeping.1)
-              (taken_for entry, ap (λ (entries : List PlanRecord). map taken_for entries) is_one, keeping.2);
+              numbered_writing standing writing (subst (λ (w : Writing). IsWritingOf rules named real standing (suc number) (map taken_for group) w) (sym keeping.1)
+              (taken_for entry, ap (λ (entries : List PlanRecord). map taken_for entries) is_one, keeping.2));
           unasked = λ standing write e.
               let asked = write_asked setup number entry in
               let same = within_is asked entry.data.items
@@ -412,13 +463,13 @@ module _ (read : (block : Block) (rest : List ℕ) → CanBeWritten block → bl
     -- a Write that carries a list of these records
     list_kept : setup.plan.multiple_write ≡ true → (standing : Option (List ℕ)) (entries : List PlanRecord) → length entries ≤ 10 → AreWritable read setup number entries
         → AllByRecursion IsParameter entries → IsRecord (list_asked setup number (length (entries_bytes setup number entries))).header
-        → ((octets : List ℕ) → says_written setup.plan (number + 1) octets ≡ true → is_all_written (outcomes_behind (outcome_at octets) (length entries)) ≡ true)
+        → ((octets : List ℕ) → says_written setup.plan (suc number) octets ≡ true → is_all_written (outcomes_behind (outcome_at octets) (length entries)) ≡ true)
         → (writing : Writing) → writing_of standing real (list_blocks setup number entries) ≡ Ok writing
-        → IsWritingOf rules named real standing (number + 1) (map taken_for entries) writing
+        → IsWritingOf rules named real standing (suc number) (map taken_for entries) writing
     list_kept several standing [] few can below sized says writing e = absurd (nothing_written standing real writing e)
     list_kept several standing (entry ∷ entries) few can below sized says writing e =
         let outcome = list_is read setup named real number entry entries few can sized standing writing e in
-        subst (λ (w : Writing). IsWritingOf rules named real standing (number + 1) (map taken_for (entry ∷ entries)) w) (sym outcome) (
+        subst (λ (w : Writing). IsWritingOf rules named real standing (suc number) (map taken_for (entry ∷ entries)) w) (sym outcome) (
           each_keeps read setup named real number standing (entry ∷ entries) below,
           λ outcomes are said. list_done read setup number (entry ∷ entries) sized can outcomes are (says _ said),
         )
@@ -435,10 +486,8 @@ module _ (read : (block : Block) (rest : List ℕ) → CanBeWritten block → bl
         subst (λ (request : IodWriteReq). asked_name real named request.header ≡ None) (sym same)
         (unnamed_is real named asked.header (none_above named unnamed.indices 0xFFFF 0xFFFF 0xE040 (omega arith)))
 
-    list_planned : setup.plan.multiple_write ≡ true → IsPlannedWrite rules named real (number + 1) (writing_blocks setup number)
+    list_planned : setup.plan.multiple_write ≡ true → IsPlannedWrite rules named real (writing_blocks setup number)
     list_planned several = record {
-      number = number;
-      is = refl;
       keeps = λ standing writing e.
           let start = first_of setup.plan number in
           let each = per_call setup.plan in
@@ -449,9 +498,9 @@ module _ (read : (block : Block) (rest : List ℕ) → CanBeWritten block → bl
           let short = each_take (λ (e : PlanRecord). length e.data.items ≤ 64) each (drop start records) (each_drop (λ (e : PlanRecord). length e.data.items ≤ 64) start records good.short) in
           let ten : each ≡ 10 = ap (λ (b : Bool). cond b 10 1) several in
           let few : length group ≤ 10 = omega (arith, take_few each (drop start records), ten) in
-          list_kept several standing group few (records_can number listed group below fits short) below
+          numbered_writing standing writing (list_kept several standing group few (records_can number listed group below fits short) below
           (list_can read setup number long group good.named (omega (arith, listed, good.few)) few short)
-          (λ octets says. says_all setup number several listed octets says) writing (subst (λ (b : List ℕ). writing_of standing real b ≡ Ok writing) blocks e);
+          (λ octets says. says_all setup number several listed octets says) writing (subst (λ (b : List ℕ). writing_of standing real b ≡ Ok writing) blocks e));
       unasked = λ standing write e.
           let start = first_of setup.plan number in
           let each = per_call setup.plan in
@@ -465,10 +514,10 @@ module _ (read : (block : Block) (rest : List ℕ) → CanBeWritten block → bl
           (subst (λ (b : List ℕ). write_within standing b ≡ Ok write) blocks e);
     }
 
-    write_planned : IsPlannedWrite rules named real (number + 1) (writing_blocks setup number)
+    write_planned : IsPlannedWrite rules named real (writing_blocks setup number)
     write_planned = by_kind setup.plan.multiple_write refl
       where
-        by_kind : (b : Bool) → setup.plan.multiple_write ≡ b → IsPlannedWrite rules named real (number + 1) (writing_blocks setup number)
+        by_kind : (b : Bool) → setup.plan.multiple_write ≡ b → IsPlannedWrite rules named real (writing_blocks setup number)
         by_kind true several = list_planned several
         by_kind false alone = one_planned alone
 
@@ -481,18 +530,17 @@ module _ (read : (block : Block) (rest : List ℕ) → CanBeWritten block → bl
   asked_planned (asks.Write number) called listed = λ planned. write_planned number listed
   asked_planned asks.PrmEnd called listed = tt
   asked_planned (asks.PrmEndAfter tries) called listed = tt
-  -- OPEN: a Write is known by its sequence number
-  asked_planned (asks.WriteAfter number tries) called listed = ?
+  asked_planned (asks.WriteAfter number tries) called listed = λ planned. write_planned number listed
   asked_planned (asks.Release sequence) called listed = tt
 
   -- a Write of the application, or after a plug, that is one of the plan
-  access_write : (sequence : ℕ) (blocks : List ℕ) → is_planned setup sequence blocks ≡ true → IsPlannedWrite rules named real sequence blocks
-  access_write zero blocks e = absurd cc
-  access_write (suc number) blocks e =
-      let parts = and_parts (nat_lt number (write_count setup.plan)) (pointwise nat_eq blocks (writing_blocks setup number)) e in
-      let planned = write_planned number (ltb-true number (write_count setup.plan) parts.0) in
-      subst (λ (b : List ℕ). IsPlannedWrite rules named real (suc number) b) (sym (same_text blocks _ (sym parts.1)))
-      (subst (λ (n : ℕ). IsPlannedWrite rules named real n (writing_blocks setup number)) (add-one number) planned)
+  access_write : (sequence : ℕ) (blocks : List ℕ) → is_planned setup sequence blocks ≡ true → IsPlannedWrite rules named real blocks
+  access_write sequence blocks e =
+      let number = number_in blocks in
+      let parts = and_parts (nat_lt number (write_count setup.plan)) (pointwise nat_eq blocks (writing_blocks setup number) && nat_lt number sequence) e in
+      let same = (and_parts (pointwise nat_eq blocks (writing_blocks setup number)) (nat_lt number sequence) parts.1).0 in
+      subst (λ (b : List ℕ). IsPlannedWrite rules named real b) (sym (same_text blocks _ (sym same)))
+      (write_planned number (ltb-true number (write_count setup.plan) parts.0))
 
   access_planned : (kind : RecordService) (sequence : ℕ) (blocks : List ℕ) → IsPlannedAs rules named real sequence blocks (operation_of (service_operation kind))
   unfolding operation_of

@@ -1,5 +1,5 @@
 -- Each turn of a device, as far as a start-up is concerned: drawn from what the turn does.
-use Rattle.std.proofs.Common.{◌≡◌, ◌⊎◌, inl, inr, ◌-◌, ◌<◌, ◌==◌, ℕ, Bool, true, false, cond, List, [], ◌∷◌, ◌++◌, map, take, Option, Some, None, option_map, Result, Ok, Err, refl, sym, ap, subst, ◌∙◌, append-nil, arith}
+use Rattle.std.proofs.Common.{◌≡◌, ◌⊎◌, inl, inr, ◌<◌, ◌==◌, ℕ, suc, Bool, true, false, cond, List, [], ◌∷◌, ◌++◌, map, take, Option, Some, None, option_map, Result, Ok, Err, refl, sym, ap, subst, ◌∙◌, append-nil, arith}
 use Rattle.std.proofs.lemmas.List.{map-append}
 use Rattle.std.specs.Prelude.{◌&&◌, nat_lt, nat_eq, unwrap_or}
 use Rattle.std.specs.List.{AllByRecursion}
@@ -45,14 +45,14 @@ use Rattle.device_core.specs.Several.{judged_each}
 use Rattle.device_core.specs.Asking.{Asking, asking_of, asking_write, kept_reply, question_of, reply_to, write_within}
 use Rattle.device_core.specs.Handled.{outcome_of, answer_from, kept_for}
 use Rattle.end_laws.specs.both.Small as small
-use Rattle.end_laws.specs.both.Small.{Rules, ToDevice}
-use Rattle.end_laws.specs.both.Steps.{IsNew, IsSameOrNone, Carries, Comes, Forgets, GoesBy as SmallGoesBy, PassesOn, TakesAny, TakesRecords, SaysAtMost, IsReady, IsDull, DeviceSteps}
+use Rattle.end_laws.specs.both.Small.{Rules, ToDevice, reply_of}
+use Rattle.end_laws.specs.both.Steps.{IsNew, IsSameOrNone, Carries, Comes, ComesBy, Succeeds, Written as SmallWritten, Forgets, GoesBy as SmallGoesBy, PassesOn, TakesAny, TakesRecords, SaysAtMost, IsReady, IsDull, DeviceSteps}
 use Rattle.relations.specs.Phases.{Named, parameterized_from, restarted, updated}
-use Rattle.end_laws.specs.device.Small.{AreDone, IsAskedOwn, Planned, asked_in, phase_in, link_of, kept_in, small_of, written_by, asked_by, heard_as, is_positive, IsPlannedAs, IsPlannedCall, IsPlanned, IsHeardAs, IsWritingOf}
+use Rattle.end_laws.specs.device.Small.{AreDone, IsAskedOwn, Planned, asked_in, phase_in, link_of, kept_in, small_of, written_by, asked_by, heard_as, number_in, IsPlannedAs, IsPlannedCall, IsPlanned, IsHeardAs, IsWritingOf}
 use Rattle.end_laws.specs.device.Does.{AreReadied, Confirms, Declines, Does, busy_answer, Following, GoesBy, IsEffect, IsExchange, IsKeptOr, IsOther, IsReadied, IsUncalled, Plugging, Questions, Readying, Repeats, Replies, Rests, Serves, Stored, Written, WrittenEach, readied_from, with_more}
 use Rattle.end_laws.specs.device.Orderly.{IsOrderlyIn}
 use Rattle.end_laws.specs.device.Owed.{IsAskedLater, IsAsking}
-use Rattle.end_laws.proofs.BothKept.{may_come}
+use Rattle.end_laws.proofs.BothKept.{carries_some}
 use Rattle.end_laws.proofs.DeviceLists.{TakesOf, each_undone, keeps_take, none_listed, outcomes_are}
 use Rattle.end_laws.proofs.DeviceOwing.{bind_ok, same_request}
 use Rattle.end_laws.proofs.DeviceWalk.{keeping_is}
@@ -98,17 +98,17 @@ RefusalsAreNotDone = (operation : Operation) (fault : CallFault) → is_done (st
 
 -- the request of a Write, by whether it is one of the start-up
 abbrev written_ask : Bool → ℕ → small.Ask
-written_ask true sequence = small.Writes (sequence - 1)
-written_ask false sequence = small.Accesses
+written_ask true number = small.Writes number
+written_ask false number = small.Accesses
 
-written_call : (b : Bool) (sequence : ℕ) → written_by b sequence ≡ small.Call sequence (written_ask b sequence)
-written_call true sequence = refl
-written_call false sequence = refl
+written_call : (b : Bool) (sequence number : ℕ) → written_by b sequence number ≡ small.Call sequence (written_ask b number)
+written_call true sequence number = refl
+written_call false sequence number = refl
 
 -- the request of a call, if it is one of the start-up or of the application
 abbrev ask_of : Planned → ℕ → List ℕ → Option Operation → small.Ask
 ask_of planned sequence blocks (Some operation.Connect) = small.Connects
-ask_of planned sequence blocks (Some operation.Write) = written_ask (planned sequence blocks) sequence
+ask_of planned sequence blocks (Some operation.Write) = written_ask (planned sequence blocks) (number_in blocks)
 ask_of planned sequence blocks (Some operation.Control) = small.Parameterized
 ask_of planned sequence blocks (Some operation.Read) = small.Accesses
 ask_of planned sequence blocks _ = small.Releases
@@ -206,15 +206,9 @@ module _ (refusals_are_not_done : RefusalsAreNotDone) (rules : Rules TakenRecord
     becomes = it.becomes;
   }))
 
-  -- a response says whether the call succeeded, and with it each of its records
-  abbrev positive_of : ℕ → Result (List ℕ) CallFault → Bool
-  positive_of sequence (Ok octets) = rules.grants sequence octets
-  positive_of sequence (Err why) = false
-
-  says_done : (which : Operation) (sequence : ℕ) (outcome : Result (List ℕ) CallFault)
-      → (is_done (outcome_of which outcome).0 && rules.grants sequence (outcome_of which outcome).1) ≡ positive_of sequence outcome
-  says_done which sequence (Ok octets) = refl
-  says_done which sequence (Err why) = ap (λ (b : Bool). b && rules.grants sequence []) (refusals_are_not_done which why)
+  -- what a response says, by the outcome of the call
+  abbrev reply_by : Operation → Result (List ℕ) CallFault → small.Reply
+  reply_by which outcome = record { done = is_done (outcome_of which outcome).0; blocks = (outcome_of which outcome).1 }
 
   module _ (heard : Heard) (planned : IsPlanned rules activity station.named live.rest.real heard) (after : Rest) (sent : List Sent) (all : AreHeard sent) where
     -- ---- calls
@@ -227,7 +221,7 @@ module _ (refusals_are_not_done : RefusalsAreNotDone) (rules : Rules TakenRecord
         → asked_by rules.is_planned sequence blocks which ≡ small.Call sequence (ask_of rules.is_planned sequence blocks which)
     call_heard sequence blocks (Some operation.ReadImplicit) plan = absurd plan
     call_heard sequence blocks None plan = absurd plan
-    call_heard sequence blocks (Some operation.Write) plan = written_call (rules.is_planned sequence blocks) sequence
+    call_heard sequence blocks (Some operation.Write) plan = written_call (rules.is_planned sequence blocks) sequence (number_in blocks)
     call_heard sequence blocks (Some operation.Connect) plan = refl
     call_heard sequence blocks (Some operation.Control) plan = refl
     call_heard sequence blocks (Some operation.Read) plan = refl
@@ -272,29 +266,30 @@ module _ (refusals_are_not_done : RefusalsAreNotDone) (rules : Rules TakenRecord
 
     -- the records of several that a relation accepts
     takes_more : (source : Partner) (passed : PassedOn) (values : List TakenRecord) (link : Option RelationState)
-        → Comes rules true small.Accesses (option_map link_of link) (option_map link_of (option_map (with_more source passed values) link))
+        → Carries rules small.Accesses (option_map link_of link) (option_map link_of (option_map (with_more source passed values) link))
     takes_more source passed values None = inl refl
     takes_more source passed values (Some link) = inr (record { link = link_of link; values = values; was = refl; becomes = refl })
 
     stores_none : (value : ImValue) (planned : TakenRecord) → Stores value ≡ Keeps planned → ⊥
     stores_none value planned e = absurd cc
 
-    -- a call that succeeds, whatever its response says of its records
-    comes_so : (granted : Bool) (ask : small.Ask) (before now : Option (small.RelationState TakenRecord Request)) → Carries rules ask before now → Comes rules granted ask before now
-    comes_so true ask before now carries = carries
-    comes_so false ask before now carries = may_come rules ask true before now carries
+    -- a Write that succeeds, whatever its response says of its records
+    written_so : (granted : Bool) (number : ℕ) (before now : Option (small.RelationState TakenRecord Request)) → Carries rules (small.Writes number) before now
+        → SmallWritten rules granted number before now
+    written_so true number before now carries = carries
+    written_so false number before now carries = carries_some rules number before now carries
 
     -- a relation that has accepted these records, as a start-up sees it
     abbrev taking_now : RelationState → List TakenRecord → Option (small.RelationState TakenRecord Request)
     taking_now link taken = Some (record (link_of link) { taken = taken })
 
     -- the records of a Write of the start-up
-    each_comes : (before now : Option RelationState) (sequence number : ℕ) (blocks octets : List ℕ)
+    each_comes : (before now : Option RelationState) (number : ℕ) (blocks octets : List ℕ)
         (it : WrittenEach station.named live.rest.real blocks octets before now)
-        → IsWritingOf rules station.named live.rest.real (uuid_of before) sequence (rules.group number) (Each it.header it.entries)
-        → (granted : Bool) → rules.grants sequence octets ≡ granted → Comes rules granted (small.Writes number) (option_map link_of before) (option_map link_of now)
-    each_comes None now sequence number blocks octets it keeps granted e = absurd (none_listed live.rest.real blocks it.header it.entries it.judged)
-    each_comes (Some link) now sequence number blocks octets it keeps granted e = by_granted granted e
+        → IsWritingOf rules station.named live.rest.real (uuid_of before) (suc number) (rules.group number) (Each it.header it.entries)
+        → SmallWritten rules (rules.grants (suc number) octets) number (option_map link_of before) (option_map link_of now)
+    each_comes None now number blocks octets it keeps = absurd (none_listed live.rest.real blocks it.header it.entries it.judged)
+    each_comes (Some link) now number blocks octets it keeps = by_granted (rules.grants (suc number) octets) refl
       where
         takes : TakesOf (judged_each station.named (uuid_of (Some link)) live.rest.real it.entries) (rules.group number) it.answers link
         takes = keeps_take refusals_are_not_done (judged_each station.named (uuid_of (Some link)) live.rest.real it.entries) (rules.group number)
@@ -319,10 +314,10 @@ module _ (refusals_are_not_done : RefusalsAreNotDone) (rules : Rules TakenRecord
               same = behind ∙ (ap (λ (values : List TakenRecord). taking_now link (link.taken ++ values)) none ∙ ap (taking_now link) (append-nil link.taken));
             })
 
-        by_granted : (b : Bool) → rules.grants sequence octets ≡ b → Comes rules b (small.Writes number) (Some (link_of link)) (option_map link_of now)
+        by_granted : (b : Bool) → rules.grants (suc number) octets ≡ b → SmallWritten rules b number (Some (link_of link)) (option_map link_of now)
         by_granted true f =
             let judged = judged_each station.named (uuid_of (Some link)) live.rest.real it.entries in
-            let says = sym (ap (λ (o : List ℕ). rules.grants sequence o) it.tells) ∙ f in
+            let says = sym (ap (λ (o : List ℕ). rules.grants (suc number) o) it.tells) ∙ f in
             let done = keeps.1 (statuses_of judged it.answers (Some link))
             (outcomes_are station.named (uuid_of (Some link)) live.rest.real it.entries it.answers (Some link)) says in
             by_option (passes_on link) refl done
@@ -374,68 +369,55 @@ module _ (refusals_are_not_done : RefusalsAreNotDone) (rules : Rules TakenRecord
         → IsPlannedAs rules station.named live.rest.real sequence blocks (Some operation.Write)
         → Written live.rest.real blocks live.rest.link after.link
         ⊎ (Stored live.rest.real blocks live.rest.link after.link ⊎ WrittenEach station.named live.rest.real blocks octets live.rest.link after.link)
-        → (granted : Bool) → rules.grants sequence octets ≡ granted → Comes rules granted (written_ask b sequence) (option_map link_of live.rest.link) (option_map link_of after.link)
-    writes sequence blocks octets true e asks (inl it) granted g =
-        let plan = asks e in
-        let keeps = plan.keeps (uuid_of live.rest.link) (One it.write) it.judged in
-        let number : sequence - 1 ≡ plan.number = omega (arith, plan.is) in
-        let values : it.value ∷ [] ≡ rules.group (sequence - 1) =
-        ap (λ (v : TakenRecord). v ∷ []) (same_kept it.value keeps.0 (sym it.keeps ∙ keeps.2)) ∙ (sym keeps.1 ∙ ap rules.group (sym number)) in
-        comes_so granted (small.Writes (sequence - 1)) (option_map link_of live.rest.link) (option_map link_of after.link)
-        (written_carries live.rest.link after.link (sequence - 1) blocks it values)
-    writes sequence blocks octets true e asks (inr (inl it)) granted g =
-        let plan = asks e in
-        let keeps = plan.keeps (uuid_of live.rest.link) (One it.write) it.judged in
+        → Succeeds rules octets (written_ask b (number_in blocks)) (option_map link_of live.rest.link) (option_map link_of after.link)
+    writes sequence blocks octets true e asks (inl it) =
+        let number = number_in blocks in
+        let keeps = (asks e).keeps (uuid_of live.rest.link) (One it.write) it.judged in
+        let values : it.value ∷ [] ≡ rules.group number =
+        ap (λ (v : TakenRecord). v ∷ []) (same_kept it.value keeps.0 (sym it.keeps ∙ keeps.2)) ∙ sym keeps.1 in
+        written_so (rules.grants (suc number) octets) number (option_map link_of live.rest.link) (option_map link_of after.link)
+        (written_carries live.rest.link after.link number blocks it values)
+    writes sequence blocks octets true e asks (inr (inl it)) =
+        let keeps = (asks e).keeps (uuid_of live.rest.link) (One it.write) it.judged in
         absurd (stores_none it.value keeps.0 (sym it.stores ∙ keeps.2))
-    writes sequence blocks octets true e asks (inr (inr it)) granted g =
-        let plan = asks e in
-        let keeps = plan.keeps (uuid_of live.rest.link) (Each it.header it.entries) it.judged in
-        let number : plan.number ≡ sequence - 1 = omega (arith, plan.is) in
-        subst (λ (n : ℕ). Comes rules granted (small.Writes n) (option_map link_of live.rest.link) (option_map link_of after.link)) number
-        (each_comes live.rest.link after.link sequence plan.number blocks octets it keeps granted g)
-    writes sequence blocks octets false e asks (inl it) granted g =
-        comes_so granted small.Accesses (option_map link_of live.rest.link) (option_map link_of after.link) (written_accesses live.rest.link after.link blocks it)
-    writes sequence blocks octets false e asks (inr (inl it)) granted g =
-        comes_so granted small.Accesses (option_map link_of live.rest.link) (option_map link_of after.link)
-        (inl (ap (λ (l : Option RelationState). option_map link_of l) it.same.1 ∙ restarted_small it.same.0 live.rest.link))
-    writes sequence blocks octets false e asks (inr (inr it)) granted g =
-        let taken = takes_more it.source it.passed it.values live.rest.link in
-        comes_so granted small.Accesses (option_map link_of live.rest.link) (option_map link_of after.link)
-        (subst (λ (l : Option RelationState). Comes rules true small.Accesses (option_map link_of live.rest.link) (option_map link_of l)) (sym it.becomes) taken)
+    writes sequence blocks octets true e asks (inr (inr it)) =
+        each_comes live.rest.link after.link (number_in blocks) blocks octets it ((asks e).keeps (uuid_of live.rest.link) (Each it.header it.entries) it.judged)
+    writes sequence blocks octets false e asks (inl it) = written_accesses live.rest.link after.link blocks it
+    writes sequence blocks octets false e asks (inr (inl it)) =
+        inl (ap (λ (l : Option RelationState). option_map link_of l) it.same.1 ∙ restarted_small it.same.0 live.rest.link)
+    writes sequence blocks octets false e asks (inr (inr it)) =
+        subst (λ (l : Option RelationState). Carries rules small.Accesses (option_map link_of live.rest.link) (option_map link_of l)) (sym it.becomes)
+        (takes_more it.source it.passed it.values live.rest.link)
 
     -- what a call does to the relation, as the small machine does it
     comes : (caller : Caller) (sequence : ℕ) (blocks : List ℕ) (outcome : Result (List ℕ) CallFault) (which : Operation)
         → IsPlannedAs rules station.named live.rest.real sequence blocks (Some which)
         → IsEffect station live.rest.real caller blocks outcome which live.rest.link after.link
-        → Comes rules (positive_of sequence outcome) (ask_of rules.is_planned sequence blocks (Some which)) (option_map link_of live.rest.link) (option_map link_of after.link)
-    comes caller sequence blocks (Err why) which plan same = inl (ap (λ (l : Option RelationState). option_map link_of l) same)
+        → Comes rules (reply_by which outcome) (ask_of rules.is_planned sequence blocks (Some which)) (option_map link_of live.rest.link) (option_map link_of after.link)
+    comes caller sequence blocks (Err why) which plan same =
+        subst (λ (b : Bool). ComesBy rules b (outcome_of which (Err why)).1 (ask_of rules.is_planned sequence blocks (Some which)) (option_map link_of live.rest.link)
+        (option_map link_of after.link)) (sym (refusals_are_not_done which why)) (ap (λ (l : Option RelationState). option_map link_of l) same)
     comes caller sequence blocks (Ok octets) operation.Connect plan it =
-        comes_so (rules.grants sequence octets) small.Connects (option_map link_of live.rest.link) (option_map link_of after.link)
-        (ap (λ (l : Option RelationState). option_map link_of l) it.made
+        ap (λ (l : Option RelationState). option_map link_of l) it.made
         ∙ ap (λ (r : Request). Some (record { phase = small.Started; request = r; taken = [] }))
-        (same_request (uuid_of live.rest.link) blocks it.request rules.request it.read plan))
+        (same_request (uuid_of live.rest.link) blocks it.request rules.request it.read plan)
     comes caller sequence blocks (Ok octets) operation.Write plan it =
-        writes sequence blocks octets (rules.is_planned sequence blocks) refl plan it (rules.grants sequence octets) refl
-    comes caller sequence blocks (Ok octets) operation.Control plan (inl it) =
-        comes_so (rules.grants sequence octets) small.Parameterized (option_map link_of live.rest.link) (option_map link_of after.link) (inl (record {
-          link = link_of it.link;
-          was = ap (λ (l : Option RelationState). option_map link_of l) it.was;
-          started = ap phase_in it.started;
-          becomes = ap (λ (l : Option RelationState). option_map link_of l) it.becomes ∙ parameterized_small it.source it.link it.by_application;
-        }))
-    comes caller sequence blocks (Ok octets) operation.Control plan (inr it) =
-        comes_so (rules.grants sequence octets) small.Parameterized (option_map link_of live.rest.link) (option_map link_of after.link) (inr (record {
-          link = link_of it.link;
-          was = ap (λ (l : Option RelationState). option_map link_of l) it.was;
-          exchanges = ap phase_in (it.exchanges (subst (λ (l : Option RelationState). IsOrderlyIn l) it.was orderly));
-          same = ap (λ (l : Option RelationState). option_map link_of l) it.becomes ∙ sym (ap (λ (l : Option RelationState). option_map link_of l) it.was);
-        }))
-    comes caller sequence blocks (Ok octets) operation.Release plan it =
-        comes_so (rules.grants sequence octets) small.Releases (option_map link_of live.rest.link) (option_map link_of after.link)
-        (ap (λ (l : Option RelationState). option_map link_of l) it.gone)
+        writes sequence blocks octets (rules.is_planned sequence blocks) refl plan it
+    comes caller sequence blocks (Ok octets) operation.Control plan (inl it) = inl (record {
+      link = link_of it.link;
+      was = ap (λ (l : Option RelationState). option_map link_of l) it.was;
+      started = ap phase_in it.started;
+      becomes = ap (λ (l : Option RelationState). option_map link_of l) it.becomes ∙ parameterized_small it.source it.link it.by_application;
+    })
+    comes caller sequence blocks (Ok octets) operation.Control plan (inr it) = inr (record {
+      link = link_of it.link;
+      was = ap (λ (l : Option RelationState). option_map link_of l) it.was;
+      exchanges = ap phase_in (it.exchanges (subst (λ (l : Option RelationState). IsOrderlyIn l) it.was orderly));
+      same = ap (λ (l : Option RelationState). option_map link_of l) it.becomes ∙ sym (ap (λ (l : Option RelationState). option_map link_of l) it.was);
+    })
+    comes caller sequence blocks (Ok octets) operation.Release plan it = ap (λ (l : Option RelationState). option_map link_of l) it.gone
     comes caller sequence blocks (Ok octets) operation.Read plan it =
-        comes_so (rules.grants sequence octets) small.Accesses (option_map link_of live.rest.link) (option_map link_of after.link)
-        (inl (ap (λ (l : Option RelationState). option_map link_of l) it.1 ∙ restarted_small it.0 live.rest.link))
+        inl (ap (λ (l : Option RelationState). option_map link_of l) it.1 ∙ restarted_small it.0 live.rest.link)
     comes caller sequence blocks (Ok octets) operation.ReadImplicit plan it = absurd plan
 
     module _ (it : Serves station live heard after sent) where
@@ -462,13 +444,13 @@ module _ (refusals_are_not_done : RefusalsAreNotDone) (rules : Rules TakenRecord
       serves : Goes (heard_as rules.is_planned heard) after sent
       serves = hears_call it.caller it.address it.call it.blocks it.is it.counted (inl (record {
         new = new_is sequence (kept_of activity live.rest.calls) (sym (ap (λ (a : List ℕ). looked a sequence live.rest.calls) plan.own) ∙ it.fresh);
-        positive = positive_of sequence it.outcome;
+        reply = reply_by it.which it.outcome;
         frame = bytes_of station.identity answer;
         keeps = ap (λ (k : Option Answer). option_map kept_in k) (ap (λ (c : List Answer). kept_of activity c) it.keeps ∙ kept_last activity (kept_for station.identity it.call answer) live.rest.calls plan.own);
-        does = subst (λ (o : Option Operation). Comes rules (positive_of sequence it.outcome) (ask_of rules.is_planned sequence it.blocks o) (option_map link_of live.rest.link) (option_map link_of after.link)) (sym it.asks)
+        does = subst (λ (o : Option Operation). Comes rules (reply_by it.which it.outcome) (ask_of rules.is_planned sequence it.blocks o) (option_map link_of live.rest.link) (option_map link_of after.link)) (sym it.asks)
             (comes it.caller sequence it.blocks it.outcome it.which asks it.effect);
         to_device = all_heard.0.0;
-        to_controller = subst (λ (b : Bool). SaysAtMost rules (small.Answers sequence b) (bytes_of station.identity answer)) (says_done it.which sequence it.outcome) all_heard.0.1;
+        to_controller = all_heard.0.1;
         others = frames_of (readied_from from it.ready);
         sent = ap frames_of it.sends;
         readies = all_ready after from it.ready it.readied all_heard.1;
@@ -555,7 +537,7 @@ module _ (refusals_are_not_done : RefusalsAreNotDone) (rules : Rules TakenRecord
     asks_access caller call number blocks asking operation.ReadImplicit own_plan e = absurd own_plan
     asks_access caller call number blocks asking operation.Write own_plan e = by_plan (rules.is_planned number blocks) refl
       where
-        by_plan : (b : Bool) → rules.is_planned number blocks ≡ b → written_ask b number ≡ small.Accesses
+        by_plan : (b : Bool) → rules.is_planned number blocks ≡ b → written_ask b (number_in blocks) ≡ small.Accesses
         by_plan false is = refl
         by_plan true is =
             absurd (never_asked caller call asking (write_within (uuid_of live.rest.link) blocks) ((own_plan is).unasked (uuid_of live.rest.link)) e)
@@ -600,18 +582,17 @@ module _ (refusals_are_not_done : RefusalsAreNotDone) (rules : Rules TakenRecord
         let own_call = planned_call one.caller one.address call one.is in
         let message = busy_answer live one.caller call one.which in
         let all_heard : AreHeard (message ∷ []) = subst (λ (messages : List Sent). AreHeard messages) it.sends all in
-        let refused : (is_done (unanswered_status one.which Busy) && rules.grants call.header.sequence []) ≡ false = ap
-        (λ (b : Bool). b && rules.grants call.header.sequence []) it.undone in
+        let reply : small.Reply = record { done = is_done (unanswered_status one.which Busy); blocks = [] } in
         hears_call one.caller one.address call one.blocks one.is one.counted (inl (record {
           new = fresh_new call own_call.own one.fresh;
-          positive = false;
+          reply = reply;
           frame = bytes_of station.identity message;
           keeps = ap (λ (r : Rest). option_map kept_in (kept_of activity r.calls)) it.becomes
               ∙ ap (λ (k : Option Answer). option_map kept_in k) (kept_last activity (kept_for station.identity call message) live.rest.calls own_call.own);
-          does = inl (ap (λ (r : Rest). option_map link_of r.link) it.becomes);
+          does = subst (λ (b : Bool). ComesBy rules b [] (ask_of rules.is_planned call.header.sequence one.blocks (operation_of call.header.operation))
+              (option_map link_of live.rest.link) (option_map link_of after.link)) (sym it.undone) (ap (λ (r : Rest). option_map link_of r.link) it.becomes);
           to_device = all_heard.0.0;
-          to_controller = subst (λ (b : Bool). SaysAtMost rules (small.Answers call.header.sequence b)
-              (bytes_of station.identity message)) refused all_heard.0.1;
+          to_controller = all_heard.0.1;
           others = [];
           sent = ap frames_of it.sends;
           readies = tt;
@@ -630,7 +611,7 @@ module _ (refusals_are_not_done : RefusalsAreNotDone) (rules : Rules TakenRecord
           asked = ap number_of it.asked;
           settled = ap number_of it.settled;
           new = new_is sequence (kept_of activity live.rest.calls) (sym (ap (λ (a : List ℕ). looked a sequence live.rest.calls) of_activity) ∙ it.fresh);
-          positive = is_positive rules (answer_to (call_of question) it.status it.blocks);
+          reply = reply_of (answer_to (call_of question) it.status it.blocks);
           frame = bytes_of station.identity message;
           keeps = ap (λ (c : List Answer). option_map kept_in (kept_of activity c)) it.keeps
               ∙ ap (λ (k : Option Answer). option_map kept_in k)

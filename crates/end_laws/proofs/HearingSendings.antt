@@ -1,5 +1,5 @@
 -- Each call of a controller for its plan can be sent.
-use Rattle.std.proofs.Common.{◌≡◌, ◌≤◌, ◌<◌, ◌+◌, ◌-◌, ◌*◌, ◌/◌, ℕ, zero, suc, Bool, true, false, cond, List, [], ◌∷◌, length, take, drop, Some, refl, arith, ◌%◌}
+use Rattle.std.proofs.Common.{◌≡◌, ◌≤◌, ◌<◌, ◌+◌, ◌-◌, ◌*◌, ◌/◌, ℕ, zero, suc, Bool, true, false, cond, List, [], ◌∷◌, length, take, drop, Some, refl, arith}
 use Rattle.std.specs.List.{AllByRecursion, slice_get}
 use Rattle.std.specs.Prelude.{replicate}
 use Rattle.std.proofs.lemmas.Bool.{leb-true}
@@ -34,7 +34,7 @@ use Rattle.controller_messages.specs.declared.request.Request.TheVariants as ask
 use Rattle.controller_messages.specs.declared.setup.Setup.{Setup}
 use Rattle.controller_messages.specs.PlugRequests.{plug_blocks, plug_call, plug_end, plug_operation, plug_write, plug_write_blocks}
 use Rattle.controller_messages.specs.RecordRequests.{read_of, record_blocks, record_call, service_operation, written_of}
-use Rattle.controller_messages.specs.Requests.{blocks_of as blocks_for, call_for, control_of, entries_bytes, entry_bytes, first_of, group_of, header_of, list_blocks, list_of, object_of, operation_of, padding_of, per_call, sequence_of, write_blocks, write_of, written_by}
+use Rattle.controller_messages.specs.Requests.{blocks_of as blocks_for, call_for, control_of, entries_bytes, entry_bytes, first_of, group_of, header_of, list_blocks, list_of, object_of, operation_of, padding_of, per_call, sequence_of, write_blocks, write_of, writing_blocks}
 use Rattle.relations.specs.declared.plugging.PlugReady.{PlugReady}
 use Rattle.relations.specs.declared.ready.Ready.{Ready}
 use Rattle.connect_blocks.specs.PlugControl.{plug_control}
@@ -194,22 +194,22 @@ module _ (long : BlocksAreLong) where
   call_few true = omega arith
   call_few false = omega arith
 
-  written_few : (setup : Setup) (call number : ℕ) → IsSetup setup → length (written_by setup call number) ≤ 1372
-  written_few setup call number good =
+  written_few : (setup : Setup) (number : ℕ) → IsSetup setup → length (writing_blocks setup number) ≤ 1372
+  written_few setup number good =
       let records = setup.plan.records.items in
-      either_few setup.plan.multiple_write (list_blocks setup call (group_of setup.plan number)) (write_blocks setup call (slice_get records number))
-      (list_few setup call (group_of setup.plan number) good
+      either_few setup.plan.multiple_write (list_blocks setup number (group_of setup.plan number)) (write_blocks setup number (slice_get records number))
+      (list_few setup number (group_of setup.plan number) good
       (each_take (λ (entry : PlanRecord). length entry.data.items ≤ 64) (per_call setup.plan) (drop (first_of setup.plan number) records)
       (each_drop (λ (entry : PlanRecord). length entry.data.items ≤ 64) (first_of setup.plan number) records good.plan.short_records))
       (omega (arith, take_few (per_call setup.plan) (drop (first_of setup.plan number) records), call_few setup.plan.multiple_write)))
-      (record_few setup call records number good good.plan.short_records)
+      (record_few setup number records number good good.plan.short_records)
 
   blocks_few : (setup : Setup) (request : Request) → IsSetup setup → length (blocks_for setup request) ≤ 1372
   blocks_few setup asks.Identify good = omega arith
   blocks_few setup asks.Address good = omega arith
   blocks_few setup asks.Connect good = connect_few setup good
-  blocks_few setup (asks.Write number) good = written_few setup number number good
-  blocks_few setup (asks.WriteAfter number tries) good = written_few setup ((number + tries) % 65535) number good
+  blocks_few setup (asks.Write number) good = written_few setup number good
+  blocks_few setup (asks.WriteAfter number tries) good = written_few setup number good
   blocks_few setup (asks.PrmEndAfter tries) good = omega (arith, long (is.PrmEnd (control_of setup 1)), control_size (control_of setup 1) good.ar)
   blocks_few setup asks.PrmEnd good = omega (arith, long (is.PrmEnd (control_of setup 1)), control_size (control_of setup 1) good.ar)
   blocks_few setup (asks.Release sequence) good = omega (arith, long (is.Release (control_of setup 4)), release_size (control_of setup 4) good.ar)

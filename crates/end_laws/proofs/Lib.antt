@@ -41,7 +41,6 @@ pub mod DeviceOpenLaws
 pub mod ControllerTurns
 pub mod TurnsPatience
 pub mod TurnsBelongs
-pub mod TurnsTries
 pub mod TurnsCauses
 pub mod TurnsAgain
 pub mod TurnsInputs

@@ -75,7 +75,7 @@ module _ (mac : Mac) where
 
   released_sent : (setup : Setup) (why : Cause) (live : Live) → IsSetup setup → IsAimed live → IsSent mac (released setup why live)
   released_sent setup why live good is =
-      asking_sent setup (Ended why) (asks.Release (next_sequence setup.plan live.access.calls live.asked)) (over why live) (over_aimed why live is) (sequence_few setup.plan live.access.calls live.asked good.plan is.asked)
+      asking_sent setup (Ended why) (asks.Release (next_sequence setup.plan live.access.calls live.asked)) (over why live) (over_aimed why live is) (sequence_few setup.plan live.access.calls live.asked is.asked)
 
   writing_sent : (setup : Setup) (next : Request) (live : Live) → IsFew next → IsAimed live → IsSent mac (writing setup next live)
   writing_sent setup next live few is = asking_sent setup (phase_for next) next live is few

@@ -87,7 +87,7 @@ over_live cause_is live is = record { device = is.device; asked = tt; way = is.w
 
 released_right : (setup : Setup) (cause_is : Cause) (live : Live) → IsSetup setup → IsLive live → IsRight setup (released setup cause_is live)
 released_right setup cause_is live good is =
-    asking_right setup (Ended cause_is) (asks.Release (next_sequence setup.plan live.access.calls live.asked)) (over cause_is live) (over_live cause_is live is) (sequence_few setup.plan live.access.calls live.asked good.plan is.asked)
+    asking_right setup (Ended cause_is) (asks.Release (next_sequence setup.plan live.access.calls live.asked)) (over cause_is live) (over_live cause_is live is) (sequence_few setup.plan live.access.calls live.asked is.asked)
 
 writing_right : (setup : Setup) (next : Request) (live : Live) → IsFew next → IsLive live → IsRight setup (writing setup next live)
 writing_right setup next live few is = asking_right setup (phase_for next) next live is few

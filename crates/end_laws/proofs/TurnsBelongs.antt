@@ -1,9 +1,9 @@
 -- An answer that belongs to another request is dropped, and each call that is sent is the one that waits.
-use Rattle.std.proofs.Common.{◌≡◌, ◌≢◌, ◌⊎◌, inl, inr, ◌+◌, ◌++◌, ◌==◌, ◌<◌, ◌≤◌, ◌&&◌, ℕ, Bool, true, false, List, [], ◌∷◌, Option, Some, None, refl, sym, ap, subst, ◌∙◌, arith}
-use Rattle.std.specs.Prelude.{if◌then◌else◌, is_some, nat_eq}
+use Rattle.std.proofs.Common.{◌≡◌, ◌≢◌, ◌⊎◌, inl, inr, ◌+◌, ◌++◌, ◌==◌, ◌<◌, ◌≤◌, ◌&&◌, ℕ, Bool, true, false, cond, List, [], ◌∷◌, Option, Some, None, refl, sym, ap, subst, ◌∙◌, arith}
+use Rattle.std.specs.Prelude.{if◌then◌else◌, is_some, nat_eq, nat_lt}
 use Rattle.std.specs.Cmp.Lexicographic.{pointwise, same_text}
 use Rattle.std.specs.List.{AllByRecursion}
-use Rattle.std.proofs.lemmas.Bool.{eqb-true}
+use Rattle.std.proofs.lemmas.Bool.{eqb-true, ltb-false}
 use Rattle.std.proofs.Math.Nat.{mod-eq_of_lt}
 use Rattle.record_blocks.specs.declared.alarm_ack.AlarmAck.{AlarmAck}
 use Rattle.dcp_core.specs.declared.request.Service.{Service}
@@ -13,6 +13,7 @@ use Rattle.rpc_core.specs.declared.header.CallHeader.{CallHeader}
 use Rattle.rpc_core.specs.Response.{Answered as Response}
 use Rattle.pn_alarms.specs.declared.receiver.Taken.{Taken}
 use Rattle.pn_alarms.specs.declared.receiver.Taken.TheVariants.{New, Again, Refused}
+use Rattle.pn_alarms.specs.Controller.{with_ack, with_data}
 use Rattle.pn_alarms.specs.Receiver.{taken_as}
 use Rattle.pn_alarms.specs.Sending.{due}
 use Rattle.pn_alarms.specs.Sending.{is_again as is_repeated}
@@ -32,24 +33,25 @@ use Rattle.controller_messages.specs.Heard.{Heard, Nothing, Answers, Responds, R
 use Rattle.controller_messages.specs.Heard.{Cyclic as Comes}
 use Rattle.controller_messages.specs.PlugRequests.{plug_answer, plug_header}
 use Rattle.controller_messages.specs.RecordRequests.{record_header}
-use Rattle.controller_messages.specs.Requests.{header_of, write_count, writing_from}
+use Rattle.controller_messages.specs.Requests.{header_of, sequence_of, write_count, writing_from}
 use Rattle.controller_messages.specs.Sent.{Sent, Requests, Accesses, Parametrizes, Agrees}
 use Rattle.controller_core.specs.declared.stored.event.Event.{Event}
 use Rattle.controller_core.specs.declared.stored.state.State.{State}
 use Rattle.controller_core.specs.declared.stored.state.State.TheVariants.{Looking, Addressing, Exchanging}
 use Rattle.controller_core.specs.start_up.Answers.{is_answer, is_found, is_identify, is_refused, is_set, is_set_answer}
-use Rattle.controller_core.specs.start_up.Requests.{behind_write, next_sequence}
+use Rattle.controller_core.specs.start_up.Requests.{behind_write, next_sequence, tried_as, tries_before, write_after}
 use Rattle.controller_core.specs.stored.State.{Controlling, Live}
 use Rattle.controller_messages.specs.declared.setup.ControllerOptions.{ControllerOptions}
-use Rattle.controller_core.specs.Machine.{Turn, accesses_by, accesses_of, addressed, after_turn, answered, asks_next, behind_data, beside, brought, can_begin, decided, due_frames, end_of, failed, found, is_again, later, noted, outputs_of, acks_in, acks_of, pending_by, pending_of, plug_readied, plug_replied, plugs_by, refused, refused_beside, refused_by, rejected, replied, replied_by, requests_of, responded, standing, stays, fresh_with, step_of, stepped, taken, turn_of, turned, where_due, writing}
-use Rattle.end_laws.specs.controller.Small.{IsInStep, IsSteady}
-use Rattle.end_laws.specs.turns.Belongs.{AreNumberedApart, AreNumberedLater, BelongsToAnother, DropsAnswersToOthers, IsOfAnotherCall, IsOfAnotherRequest, IsOfStartUp, IsTheWaiting, WaitsForWhatIsSent, call_by, waiting_beside, waiting_by, waiting_dcp, waiting_in}
-use Rattle.end_laws.specs.turns.Beside.{MayFollow, flow_begun}
+use Rattle.controller_core.specs.Machine.{Turn, accesses_by, accesses_of, addressed, after_turn, answered, asks_next, behind_ack, behind_data, beside, brought, can_begin, decided, due_frames, end_of, failed, flow_later, found, is_again, later, noted, outputs_of, acks_in, acks_of, pending_by, pending_of, plug_readied, plug_replied, plugs_by, refused, refused_beside, refused_by, rejected, replied, replied_by, requests_of, responded, standing, stays, fresh_with, step_of, stepped, taken, turn_of, turned, where_due, writing}
+use Rattle.end_laws.specs.both.Small as small
+use Rattle.end_laws.specs.controller.Small.{IsInStep, IsSteady, state_of}
+use Rattle.end_laws.specs.turns.Belongs.{AreNumberedApart, AreNumberedInOrder, AreNumberedLater, BelongsToAnother, DropsAnswersToOthers, IsOfAnotherCall, IsOfAnotherRequest, IsOfStartUp, IsStarting, IsTheWaiting, WaitsForWhatIsSent, call_by, waiting_beside, waiting_by, waiting_dcp, waiting_in}
+use Rattle.end_laws.specs.turns.Beside.{MayBegin, MayFollow, flow_begun}
 use Rattle.end_laws.specs.turns.Runs.{IsReached, behind_all}
 use Rattle.end_laws.specs.turns.Turns.{Came, IsKind, Kind, Rests, Connects, Addresses, Ends, Releases, Relates, Writes, Skips, Tries, Waits, Forgets, Begins, Repeats, Follows, Takes, IsAcked, Gives, GivesStatus, Asks, IsReplied, IsPlugAnswered, IsPlugReadied, Flows, Breaks, Idles, came_by, turn_by}
-use Rattle.end_laws.proofs.TurnsBeside.{follows, rejected_now, stays_alone}
+use Rattle.end_laws.proofs.TurnsBeside.{flows, follows, rejected_now, stays_alone}
 use Rattle.end_laws.proofs.TurnsOneTurn.{event_is}
-use Rattle.end_laws.proofs.ControllerTurns.{event_goes}
+use Rattle.end_laws.proofs.ControllerTurns.{Tells, alike, confirming_alike, counted_is, end_alike, event_goes, tells}
 
 -- ---- what belongs to another request is distinguished
 
@@ -205,7 +207,7 @@ steady_all [] controller steady = steady
 steady_all (event ∷ events) controller steady = steady_all events (step_of controller event).controller (steady_on controller event steady)
 
 first_steady : (plan : Parts) (ar activity : List ℕ) (options : ControllerOptions) → IsSteady plan (fresh_with plan ar activity options).live
-first_steady plan ar activity options = record { asked = refl; waiting = refl; plug = refl }
+first_steady plan ar activity options = record { asked = refl; waiting = refl; plug = refl; calls = (refl, omega arith) }
 
 pub reached_steady : (controller : Controlling) → IsReached controller → IsSteady controller.setup.plan controller.live
 reached_steady controller r =
@@ -420,3 +422,166 @@ are_numbered_later setup request fewer calls is few = (
   next_is setup request calls is few,
   refl,
 )
+
+-- ---- each call has the number after that of the call before
+
+first_number : (plan : Parts) → sequence_of plan (writing_from plan 0) ≡ 1
+first_number plan = by_count (nat_lt 0 (write_count plan)) refl
+  where
+    by_count : (b : Bool) → nat_lt 0 (write_count plan) ≡ b → sequence_of plan (cond b (asks.Write 0) asks.PrmEnd) ≡ 1
+    by_count true e = refl
+    by_count false e = let none = ltb-false 0 (write_count plan) e in omega (arith, none)
+
+-- the request after a Write
+behind_number : (plan : Parts) (number : ℕ) (tries : Option ℕ) → number < write_count plan
+    → sequence_of plan (behind_write plan number tries) ≡ sequence_of plan (write_after number tries) + 1
+behind_number plan number None listed = by_count (nat_lt (number + 1) (write_count plan)) refl
+  where
+    by_count : (b : Bool) → nat_lt (number + 1) (write_count plan) ≡ b → sequence_of plan (cond b (asks.Write (number + 1)) asks.PrmEnd) ≡ number + 1 + 1
+    by_count true e = refl
+    by_count false e = let last = ltb-false (number + 1) (write_count plan) e in omega (arith, last, listed)
+behind_number plan number (Some tries) listed = by_count (nat_lt (number + 1) (write_count plan)) refl
+  where
+    by_count : (b : Bool) → nat_lt (number + 1) (write_count plan) ≡ b
+        → sequence_of plan (cond b (asks.WriteAfter (number + 1) tries) (asks.PrmEndAfter tries)) ≡ number + tries + 1 + 1
+    by_count true e = omega arith
+    by_count false e = let last = ltb-false (number + 1) (write_count plan) e in omega (arith, last, listed)
+
+same_request : (one other : Request) → Some one ≡ Some other → one ≡ other
+same_request one other e = cc
+
+-- the same call again
+tried_number : (plan : Parts) (request next : Request) → tried_as request ≡ Some next → sequence_of plan next ≡ sequence_of plan request + 1
+tried_number plan (asks.Write number) next e = ap (λ (r : Request). sequence_of plan r) (sym (same_request (asks.WriteAfter number 1) next e))
+tried_number plan asks.PrmEnd next e = ap (λ (r : Request). sequence_of plan r) (sym (same_request (asks.PrmEndAfter 1) next e))
+tried_number plan (asks.WriteAfter number tries) next e =
+    let is : sequence_of plan next ≡ number + (tries + 1) + 1 = ap (λ (r : Request). sequence_of plan r) (sym (same_request (asks.WriteAfter number (tries + 1)) next e)) in
+    omega (arith, is)
+tried_number plan (asks.PrmEndAfter tries) next e =
+    let is : sequence_of plan next ≡ write_count plan + (tries + 1) + 1 = ap (λ (r : Request). sequence_of plan r) (sym (same_request (asks.PrmEndAfter (tries + 1)) next e)) in
+    omega (arith, is)
+tried_number plan asks.Identify next e = absurd cc
+tried_number plan asks.Address next e = absurd cc
+tried_number plan asks.Connect next e = absurd cc
+tried_number plan (asks.Release sequence) next e = absurd cc
+
+module _ (setup : Setup) (few : write_count setup.plan < 65536) (live : Live) (came : Came) (steady : IsSteady setup.plan live) (request : Request) (starts : IsStarting request)
+    (stood : live.asked ≡ Some request) where
+  -- what is active after the turn
+  abbrev Numbers : Option Request → Type 0
+  Numbers after = (next : Request) → after ≡ Some next → (next ≡ request) ⊎ (sequence_of setup.plan next ≡ sequence_of setup.plan request + 1)
+
+  keeps_number : (after : Option Request) → after ≡ live.asked → Numbers after
+  keeps_number after same next is = inl (same_request next request (sym is ∙ (same ∙ stood)))
+
+  none_active : Numbers None
+  none_active next is = absurd (none_some next is)
+    where
+      none_some : (other : Request) → None ≡ Some other → ⊥
+      none_some other e = absurd cc
+
+  later_number : (other : Request) → sequence_of setup.plan other ≡ sequence_of setup.plan request + 1 → Numbers (Some other)
+  later_number other later next is = inr (ap (λ (r : Request). sequence_of setup.plan r) (sym (same_request other next is)) ∙ later)
+
+  is_active : (other : Request) → live.asked ≡ Some other → request ≡ other
+  is_active other is = same_request request other (sym stood ∙ is)
+
+  -- a call of the start-up is made only after the station was found
+  not_before : (other : Request) → (IsStarting other → ⊥) → live.asked ≡ Some other → ⊥
+  not_before other none is = none (subst (λ (r : Request). IsStarting r) (is_active other is) starts)
+
+  not_seeking : (live.phase ≡ Looking) ⊎ (live.phase ≡ Addressing) → ⊥
+  not_seeking (inl is) = not_before asks.Identify (λ never. never) (subst (λ (p : State). IsInStep setup.plan p live.asked) is steady.asked)
+  not_seeking (inr is) = not_before asks.Address (λ never. never) (subst (λ (p : State). IsInStep setup.plan p live.asked) is steady.asked)
+
+  told : (other : Request) → live.asked ≡ Some other → Tells setup live.phase live.asked other
+  told other is = tells setup live.phase live.asked steady.asked other is
+
+  write_listed : (number : ℕ) (tries : Option ℕ) → live.asked ≡ Some (write_after number tries) → number < write_count setup.plan
+  write_listed number None is = (told (asks.Write number) is).0
+  write_listed number (Some tries) is = (told (asks.WriteAfter number tries) is).0
+
+  behind_later : (number : ℕ) (tries : Option ℕ) → live.asked ≡ Some (write_after number tries) → Numbers (Some (behind_write setup.plan number tries))
+  behind_later number tries is =
+      later_number (behind_write setup.plan number tries)
+      (behind_number setup.plan number tries (write_listed number tries is)
+      ∙ ap (λ (r : Request). sequence_of setup.plan r + 1) (sym (is_active (write_after number tries) is)))
+
+  -- the Release
+  after_end : (other : Request) (tries : ℕ) → live.asked ≡ Some other → tries_before other ≡ tries
+      → state_of setup.plan live.phase live.asked ≡ small.Asking (write_count setup.plan + 1) tries
+      → call_number setup.plan live.access.calls ≡ write_count setup.plan + tries + 1 + 1
+  after_end other tries is before asking =
+      let counted = counted_is setup live.phase live.asked other live.access.calls (write_count setup.plan + 1) tries asking is steady.calls in
+      let number = number_is setup.plan live.access.calls (omega (arith, few, counted.1)) in
+      omega (arith, number, counted.0, before)
+
+  release_number : (other : Request) → IsStarting other → live.asked ≡ Some other
+      → next_sequence setup.plan live.access.calls (Some other) ≡ sequence_of setup.plan other + 1
+  release_number asks.Connect starting is = refl
+  release_number (asks.Write number) starting is = omega arith
+  release_number (asks.WriteAfter number tries) starting is = omega arith
+  release_number asks.PrmEnd starting is = after_end asks.PrmEnd 0 is refl (told asks.PrmEnd is) ∙ omega arith
+  release_number (asks.PrmEndAfter tries) starting is = after_end (asks.PrmEndAfter tries) tries is refl (told (asks.PrmEndAfter tries) is)
+  release_number asks.Identify starting is = absurd starting
+  release_number asks.Address starting is = absurd starting
+  release_number (asks.Release sequence) starting is = absurd starting
+
+  -- a turn after which a place begins
+  follows_keeps : (turn after : Turn) → MayFollow setup turn after → turn.live.asked ≡ live.asked → Numbers after.live.asked
+  follows_keeps turn after (inl e) same = keeps_number after.live.asked (ap (λ (t : Turn). t.live.asked) e ∙ same)
+  follows_keeps turn after (inr followed) same = keeps_number after.live.asked (ap (λ (l : Live). l.asked) followed.begun.beside ∙ same)
+
+  begins_keeps : (before after : Live) → MayBegin setup before after → before.asked ≡ live.asked → Numbers after.asked
+  begins_keeps before after (inl e) same = keeps_number after.asked (ap (λ (l : Live). l.asked) e ∙ same)
+  begins_keeps before after (inr begun) same = keeps_number after.asked (ap (λ (l : Live). l.asked) begun.beside ∙ same)
+
+  after_keeps : (turn : Turn) → turn.live.asked ≡ live.asked → Numbers (after_turn setup (can_begin live) turn).live.asked
+  after_keeps turn same = follows_keeps turn (after_turn setup (can_begin live) turn) (follows setup (can_begin live) turn) same
+
+  taken_keeps : (behind : Live) (report : Report) (as_what : Taken) → behind.asked ≡ live.asked → (taken behind report as_what).live.asked ≡ live.asked
+  taken_keeps behind report New same = (confirming_alike setup behind behind report (alike setup behind)).asked ∙ same
+  taken_keeps behind report Again same = same
+  taken_keeps behind report Refused same = same
+
+  kind_numbers : (kind : Kind) → IsKind setup live came kind → Numbers (turn_by setup live kind).live.asked
+  kind_numbers (Connects source) holds = absurd (not_seeking holds.seeking)
+  kind_numbers (Addresses source) holds = absurd (not_seeking holds.0.seeking)
+  kind_numbers (Ends why refusal denied units) holds = none_active
+  kind_numbers (Releases why refusal denied units) holds =
+      later_number (asks.Release (next_sequence setup.plan live.access.calls live.asked))
+      (ap (λ (a : Option Request). next_sequence setup.plan live.access.calls a) stood ∙ release_number request starts stood)
+  kind_numbers (Relates places chosen) holds =
+      later_number (writing_from setup.plan 0)
+      (first_number setup.plan ∙ ap (λ (r : Request). sequence_of setup.plan r + 1) (sym (is_active asks.Connect holds.0.stood)))
+  kind_numbers (Writes number tries) holds = behind_later number tries holds.0.stood
+  kind_numbers (Skips number tries denied status) holds = behind_later number tries holds.stood
+  kind_numbers (Tries next status) holds =
+      later_number next (tried_number setup.plan holds.request next holds.tries
+      ∙ ap (λ (r : Request). sequence_of setup.plan r + 1) (sym (is_active holds.request holds.stood)))
+  kind_numbers (Waits tries) holds = none_active
+  kind_numbers Forgets holds = none_active
+  kind_numbers (Begins caller call block) holds = none_active
+  kind_numbers (Takes number report) holds =
+      let behind = behind_data live report.priority number in
+      let as_what = taken_as (end_of live report.priority).seen number in
+      after_keeps (taken behind report as_what)
+      (taken_keeps behind report as_what (end_alike setup live report.priority (with_data (end_of live report.priority) number)).asked)
+  kind_numbers (IsAcked priority number) holds =
+      keeps_number (behind_ack live priority number).asked (end_alike setup live priority (with_ack (end_of live priority) number)).asked
+  kind_numbers (IsReplied refusal access) holds = after_keeps (stays (record live { refusal = refusal; access = access })) refl
+  kind_numbers (IsPlugAnswered refusal refused_one waited places access) holds =
+      after_keeps (asks_next (record live { refusal = refusal; refused_record = refused_one; waited = waited; places = places; access = access })) refl
+  kind_numbers (IsPlugReadied caller call block) holds =
+      after_keeps (record { live = plug_readied live block.alarm_sequence_number; sent = Agrees caller (plug_answer call block) ∷ [] }) refl
+  kind_numbers Flows holds = begins_keeps (flow_later live) (flow_begun setup live) (flows setup live) refl
+  kind_numbers (Breaks reason) holds = none_active
+  kind_numbers other holds = keeps_number _ refl
+
+pub are_numbered_in_order : AreNumberedInOrder
+are_numbered_in_order controller event reached few request next starts stood is =
+    let setup = controller.setup in
+    let live = controller.live in
+    let turn = event_is setup live event in
+    kind_numbers setup few live (came_by setup event) (reached_steady controller reached) request starts stood turn.kind turn.holds next
+    (ap (λ (t : Turn). t.live.asked) (sym turn.is) ∙ is)

@@ -424,7 +424,7 @@ sound_all [] controller is = is
 sound_all (event ∷ events) controller is = sound_all events (step_of controller event).controller (sound_on controller event is)
 
 first_sound : (plan : Parts) (ar activity : List ℕ) (options : ControllerOptions) → IsSound (fresh_with plan ar activity options)
-first_sound plan ar activity options = record { timed = unlimited; steady = record { asked = refl; waiting = refl; plug = refl } }
+first_sound plan ar activity options = record { timed = unlimited; steady = record { asked = refl; waiting = refl; plug = refl; calls = (refl, omega arith) } }
 
 reached_sound : (controller : Controlling) → IsReached controller → IsSound controller
 reached_sound controller r =

@@ -8,4 +8,3 @@ pub mod Belongs
 pub mod Again
 pub mod Inputs
 pub mod Causes
-pub mod Tries

@@ -21,13 +21,6 @@ IsAsked count stage Parameterized = stage ≡ count + 1
 IsAsked count stage Releases = ⊥
 IsAsked count stage Accesses = ⊥
 
--- the stage of a call, given the number of Writes: a call that is none of the start-up comes after it
-abbrev pub stage_of : ℕ → Ask → ℕ
-stage_of count Connects = 0
-stage_of count (Writes number) = suc number
-stage_of count Parameterized = suc count
-stage_of count ask = suc count
-
 -- the controller makes this call: its sequence number is the stage, and one more for each call that was tried again
 pub record IsCalling (count : ℕ) (now : Controller) (sequence : ℕ) (ask : Ask) : Type 0 where
   pub stage : ℕ
@@ -156,23 +149,24 @@ module _ {T Q : Type 0} where
   Carries rules Releases before after = after ≡ None
   Carries rules Accesses before after = (after ≡ before) ⊎ TakesAny before after
 
-  -- the effect of a call that succeeds, or of a Write of which only some records are accepted
-  abbrev pub Partly : Rules T Q → Ask → Option (RelationState T Q) → Option (RelationState T Q) → Type 0
-  Partly rules (Writes number) before after = TakesSome rules number before after
-  Partly rules Parameterized before after = IsParameterized before after
-  Partly rules ask before after = Carries rules ask before after
+  -- The effect of a Write whose response is positive: the whole, if it says that each record was written. If not, it changed
+  -- nothing, or it had some of its effect: of several records each is accepted or refused by itself.
+  abbrev pub Written : Rules T Q → Bool → ℕ → Option (RelationState T Q) → Option (RelationState T Q) → Type 0
+  Written rules true number before after = Carries rules (Writes number) before after
+  Written rules false number before after = (after ≡ before) ⊎ TakesSome rules number before after
 
-  -- If the response says that all went well, the call had its whole effect. If it is negative, the call changed nothing. If
-  -- it says of a record that it was refused, the call changed nothing, or it had some of its effect: of several records each
-  -- is accepted or refused by itself.
-  abbrev pub ComesAs : Rules T Q → (done granted : Bool) → Ask → Option (RelationState T Q) → Option (RelationState T Q) → Type 0
-  ComesAs rules false granted ask before after = after ≡ before
-  ComesAs rules true true ask before after = Carries rules ask before after
-  ComesAs rules true false ask before after = (after ≡ before) ⊎ Partly rules ask before after
+  -- the effect of a call whose response is positive, and has these blocks
+  abbrev pub Succeeds : Rules T Q → List ℕ → Ask → Option (RelationState T Q) → Option (RelationState T Q) → Type 0
+  Succeeds rules blocks (Writes number) before after = Written rules (rules.grants (suc number) blocks) number before after
+  Succeeds rules blocks ask before after = Carries rules ask before after
 
-  -- the effect of a call, by what its response says
+  -- the effect of a call, by its response: if that is negative, none
+  abbrev pub ComesBy : Rules T Q → Bool → List ℕ → Ask → Option (RelationState T Q) → Option (RelationState T Q) → Type 0
+  ComesBy rules true blocks ask before after = Succeeds rules blocks ask before after
+  ComesBy rules false blocks ask before after = after ≡ before
+
   abbrev pub Comes : Rules T Q → Reply → Ask → Option (RelationState T Q) → Option (RelationState T Q) → Type 0
-  Comes rules reply ask before after = ComesAs rules reply.done (rules.grants (stage_of rules.count ask) reply.blocks) ask before after
+  Comes rules reply ask before after = ComesBy rules reply.done reply.blocks ask before after
 
   -- The controller hears this in a frame, or nothing: a frame may go to another station or be too long to be read.
   abbrev pub SaysAtMost : Rules T Q → ToController → List ℕ → Type 0

@@ -62,11 +62,24 @@ abbrev pub MayWait : {A : Type 0} → State → Option A → Type 0
 MayWait Exchanging waiting = Unit {0}
 MayWait phase waiting = waiting ≡ None
 
+-- how many calls were refused as busy before the pending request, if there is one
+abbrev pub tries_in : Option Request → ℕ
+tries_in (Some request) = tries_before request
+tries_in None = 0
+
+-- until data is exchanged, the calls that are counted are those that were refused as busy
+abbrev pub IsCounted : State → Option Request → ℕ → Type 0
+IsCounted Waiting asked calls = calls < 65536
+IsCounted Exchanging asked calls = Unit {0}
+IsCounted (Ended cause) asked calls = Unit {0}
+IsCounted phase asked calls = (calls ≡ tries_in asked) × (calls < 65536)
+
 -- what is active in each state belongs to it
 pub record IsSteady (plan : Parts) (live : Live) : Type 0 where
   pub asked : IsInStep plan live.phase live.asked
   pub waiting : MayWait live.phase live.access.waiting
   pub plug : MayWait live.phase live.access.plug
+  pub calls : IsCounted live.phase live.asked live.access.calls
 
 -- ---- what it hears
 

@@ -91,6 +91,15 @@ IsOfStartUp plan (asks.Write number) = number < write_count plan
 IsOfStartUp plan asks.PrmEnd = Unit {0}
 IsOfStartUp plan request = ⊥
 
+-- A call of the start-up, also one that is made again after it was refused as busy.
+abbrev pub IsStarting : Request → Type 0
+IsStarting asks.Connect = Unit {0}
+IsStarting (asks.Write number) = Unit {0}
+IsStarting asks.PrmEnd = Unit {0}
+IsStarting (asks.WriteAfter number tries) = Unit {0}
+IsStarting (asks.PrmEndAfter tries) = Unit {0}
+IsStarting request = ⊥
+
 -- ---- the law
 
 -- In any state: a frame with an answer that belongs to another request changes nothing, and nothing is sent.
@@ -117,3 +126,12 @@ AreNumberedLater = (setup : Setup) (request : Request) (fewer calls : ℕ) → I
     × (fewer < calls → call_number setup.plan fewer < call_number setup.plan calls)
     × ((header_of setup request).sequence < next_sequence setup.plan calls (Some request))
     × (next_sequence setup.plan calls None ≡ call_number setup.plan calls)
+
+-- After a call of the start-up, the request that is active is the same one, or its call has the next number: that of the call which
+-- follows, of the same call again after it was refused as busy, and of the Release. So two different calls of a start-up never have
+-- the same number.
+abbrev pub AreNumberedInOrder : Type 0
+AreNumberedInOrder = (controller : Controlling) (event : Event) → IsReached controller → write_count controller.setup.plan < 65536
+    → (request next : Request) → IsStarting request → controller.live.asked ≡ Some request
+    → (turn_of controller.setup controller.live event).live.asked ≡ Some next
+    → (next ≡ request) ⊎ ((header_of controller.setup next).sequence ≡ (header_of controller.setup request).sequence + 1)

@@ -1,8 +1,7 @@
 //! The laws of a controller.
 ghost use Rattle.end_laws.specs.turns.Alarms.{AreAllTaken, AreTakenInOrder, LackAtMostTheLast, ListsWhatIsReported, ShowsTheLast};
 ghost use Rattle.end_laws.specs.turns.Again.{AsksEachSecond};
-ghost use Rattle.end_laws.specs.turns.Belongs.{AreNumberedApart, AreNumberedLater, DropsAnswersToOthers, WaitsForWhatIsSent};
-ghost use Rattle.end_laws.specs.turns.Tries.{TriesAreNumberedNext};
+ghost use Rattle.end_laws.specs.turns.Belongs.{AreNumberedApart, AreNumberedInOrder, AreNumberedLater, DropsAnswersToOthers, WaitsForWhatIsSent};
 ghost use Rattle.end_laws.specs.turns.Causes.{EachCauseEnds, EachEndHasItsCause, EachRunHasItsCause};
 ghost use Rattle.end_laws.specs.turns.Ended.{CountsUnits, DropsWhatComes, IsSilent, KeepsItsCause, RepeatsItsRelease};
 ghost use Rattle.end_laws.specs.turns.Inputs.{ShowsNothingWithout, ShowsWhatCame};
@@ -73,8 +72,9 @@ pub fn answers_belong_to_their_requests()
     // Below 2^32 calls, each call of the application and each after a plug has a greater number than those before it, also those of
     // the start-up, and a Release has a greater number than the call that was active before it.
     ensures later { AreNumberedLater }
-    // The call that is sent after a Write, or PrmEnd, was refused as busy has the number after that of the refused one.
-    ensures tries { TriesAreNumberedNext }
+    // The call after a call of the start-up has the next number: the one that follows, the same one again after it was refused as
+    // busy, or the Release.
+    ensures ordered { AreNumberedInOrder }
 {}
 
 /// Why a controller ends, of any plan and with any options. These are laws of the definition that specifies

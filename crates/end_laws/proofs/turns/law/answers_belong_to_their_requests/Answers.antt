@@ -1,5 +1,4 @@
-use Rattle.end_laws.proofs.TurnsBelongs.{are_numbered_apart, are_numbered_later, drops_answers_to_others, waits_for_what_is_sent}
-use Rattle.end_laws.proofs.TurnsTries.{are_numbered_next}
+use Rattle.end_laws.proofs.TurnsBelongs.{are_numbered_apart, are_numbered_in_order, are_numbered_later, drops_answers_to_others, waits_for_what_is_sent}
 use Rattle.end_laws.proofs.turns.law.answers_belong_to_their_requests.Goals as goal
 
 pub returns-clause-dropped : goal.returns-clause-dropped
@@ -14,5 +13,5 @@ returns-clause-apart c = are_numbered_apart
 pub returns-clause-later : goal.returns-clause-later
 returns-clause-later c = are_numbered_later
 
-pub returns-clause-tries : goal.returns-clause-tries
-returns-clause-tries c = are_numbered_next
+pub returns-clause-ordered : goal.returns-clause-ordered
+returns-clause-ordered c = are_numbered_in_order
