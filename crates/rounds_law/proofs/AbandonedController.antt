@@ -32,8 +32,8 @@ use Rattle.controller_core.specs.declared.stored.state.State.{State as Phases}
 use Rattle.controller_core.specs.declared.stored.state.State.TheVariants.{Connecting}
 use Rattle.controller_core.specs.declared.stored.event.Event.TheVariants.{Frame, Tick}
 use Rattle.controller_core.specs.stored.State.{Controlling, Live, is_limited, left_in, phase_for}
-use Rattle.controller_core.specs.start_up.Answers.{is_answer, is_held, is_state_conflict, is_busy, is_tried}
-use Rattle.controller_core.specs.start_up.Requests.{next_sequence}
+use Rattle.controller_core.specs.start_up.Answers.{is_answer, is_held, is_state_conflict, is_tried}
+use Rattle.controller_core.specs.start_up.Requests.{next_sequence, tried_as}
 use Rattle.controller_core.specs.Machine.{Stepped, Turn, accesses_by, accesses_of, after_turn, brought, can_begin, decided, denied, done as done_turn, exchange_later, trying}
 use Rattle.controller_core.specs.Machine.{flow_later, flowed, gone_on, is_again, is_exchanging, later, noted, outputs_of, over, past_record, pending_by}
 use Rattle.controller_core.specs.Machine.{plugs_by}
@@ -44,10 +44,10 @@ use Rattle.end_laws.specs.hearing.Stations.{IsAddress, IsCaller, IsDevice, IsSet
 use Rattle.both_ends.specs.startup.answer.Answer.{caller_of}
 use Rattle.rounds_law.specs.Path.{AllAnswered, Asks, controller_step, request_to}
 use Rattle.rounds_law.specs.Again.{HasEnded, IsDenial}
-use Rattle.rounds_law.specs.Abandoned.{Awaited, EndsFor, IsInPlan, Expects, IsReleasing, Readiness, Releases, Response, StillExpects, WritesNext, asked_for}
+use Rattle.rounds_law.specs.Abandoned.{Awaited, EndsFor, IsInPlan, Expects, IsReleasing, Readiness, Releases, Response, StillExpects, TriesAgain, WritesNext, asked_for}
 use Rattle.rounds_law.specs.Abandoned.{last_call, phase_at, repeated}
 use Rattle.rounds_law.specs.Repeating.{completes, counts_on}
-use Rattle.rounds_law.proofs.Choices.{both_true, where_not, where_so, and_false}
+use Rattle.rounds_law.proofs.Choices.{both_true, where_not, where_so}
 use Rattle.rounds_law.proofs.ControllerCallingAsks.{count_few, step_by, step_is}
 use Rattle.rounds_law.proofs.ControllerCallingResponses.{is_its_answer, is_reported, unexchanging}
 use Rattle.rounds_law.proofs.ControllerPassingParts.{unbegun_heard}
@@ -285,50 +285,99 @@ module _ (setup : Setup) (identity : Identity) (good : IsSetup setup) (device : 
       by_plan false true = refl
       by_plan false false = refl
 
-  -- A response that does not say that the device is busy is not followed by another try.
-  untried : (status : Status) (tries : ℕ) → is_busy status ≡ false → is_tried setup.plan status tries ≡ false
-  untried status tries ready =
-      ap (λ (b : Bool). setup.plan.persistent_start && (b && nat_lt tries 65535)) ready ∙ and_false setup.plan.persistent_start
+  -- A denial of this request after which the plan's key says this.
+  abbrev DeniedAs : List ℕ → Bool → Request → Type 0
+  DeniedAs octets again request = (denial : IsDenial setup identity request octets) × (is_tried setup.plan denial.status 0 ≡ again)
 
   pub denied_heard : (serial : ℕ) (controller : Controlling) (number : ℕ) (octets : List ℕ) → number ≤ write_count setup.plan
       → Expects setup serial identity.mac (Response number) controller
-      → IsDenial setup identity (writing_from setup.plan number) octets → After serial number controller (controller_step controller octets)
-  denied_heard serial controller number octets few it denial = by_request (writing_from setup.plan number) refl (parameter_is setup.plan number)
+      → (denial : IsDenial setup identity (writing_from setup.plan number) octets) → is_tried setup.plan denial.status 0 ≡ false
+      → After serial number controller (controller_step controller octets)
+  denied_heard serial controller number octets few it denial untried = by_request (writing_from setup.plan number) refl (parameter_is setup.plan number)
     where
       by_request : (request : Request) → writing_from setup.plan number ≡ request → IsParameter setup.plan number request
           → After serial number controller (controller_step controller octets)
       by_request request same (inl is) =
           let whole : writing_from setup.plan number ≡ asks.Write number = same ∙ is.1 in
-          let denial : IsDenial setup identity (asks.Write number) octets = subst (λ (r : Request). IsDenial setup identity r octets) whole denial in
+          let all : DeniedAs octets false (asks.Write number) = subst (DeniedAs octets false) whole (denial, untried) in
+          let status = all.0.status in
           let asked = it.asked ∙ ap (λ (r : Request). Some r) whole in
-          let response = answer_to (call_for setup (asks.Write number)) denial.status [] in
+          let response = answer_to (call_for setup (asks.Write number)) status [] in
           let place = first_of setup.plan number in
-          let ends = past_record setup (writing_from setup.plan (number + 1)) (noted denial.status place controller.live) in
-          let turn = response_turn (asks.Write number) controller.live octets denial asked (is_its_answer setup (number + 1)) ends
-          (where_not (is_done denial.status) (done_turn setup controller.live response.blocks (asks.Write number))
-          (undone setup controller.live denial.status (asks.Write number)) denial.negative
-          ∙ where_not (is_tried setup.plan denial.status 0) (trying (asks.WriteAfter number 1) denial.status controller.live) ends
-          (untried denial.status 0 denial.ready))
-          (denied_none number (noted denial.status place controller.live)) in
+          let ends = past_record setup (writing_from setup.plan (number + 1)) (noted status place controller.live) in
+          let turn = response_turn (asks.Write number) controller.live octets all.0 asked (is_its_answer setup (number + 1)) ends
+          (where_not (is_done status) (done_turn setup controller.live response.blocks (asks.Write number))
+          (undone setup controller.live status (asks.Write number)) all.0.negative
+          ∙ where_not (is_tried setup.plan status 0) (trying (asks.WriteAfter number 1) status controller.live) ends all.1)
+          (denied_none number (noted status place controller.live)) in
           subst (λ (s : Stepped). After serial number controller s)
           (sym (step_is setup controller octets ends it.of_setup turn))
-          (write_denied serial number place denial.status controller is.0 it asked (it.in_phase ∙ ap phase_for whole)
+          (write_denied serial number place status controller is.0 it asked (it.in_phase ∙ ap phase_for whole)
           setup.plan.continue_on_refused_record setup.plan.release_on_refused_record refl refl)
       by_request request same (inr is) =
           let whole : writing_from setup.plan number ≡ asks.PrmEnd = same ∙ is.1 in
-          let denial : IsDenial setup identity asks.PrmEnd octets = subst (λ (r : Request). IsDenial setup identity r octets) whole denial in
+          let all : DeniedAs octets false asks.PrmEnd = subst (DeniedAs octets false) whole (denial, untried) in
+          let status = all.0.status in
           let asked = it.asked ∙ ap (λ (r : Request). Some r) whole in
-          let response = answer_to (call_for setup asks.PrmEnd) denial.status [] in
-          let ends = stays (denied denial.status controller.live) in
-          let turn = response_turn asks.PrmEnd controller.live octets denial asked (is_its_answer setup (write_count setup.plan + 1)) ends
-          (where_not (is_done denial.status) (done_turn setup controller.live response.blocks asks.PrmEnd)
-          (undone setup controller.live denial.status asks.PrmEnd) denial.negative
-          ∙ where_not (is_tried setup.plan denial.status 0) (trying (asks.PrmEndAfter 1) denial.status controller.live) ends
-          (untried denial.status 0 denial.ready))
+          let response = answer_to (call_for setup asks.PrmEnd) status [] in
+          let ends = stays (denied status controller.live) in
+          let turn = response_turn asks.PrmEnd controller.live octets all.0 asked (is_its_answer setup (write_count setup.plan + 1)) ends
+          (where_not (is_done status) (done_turn setup controller.live response.blocks asks.PrmEnd)
+          (undone setup controller.live status asks.PrmEnd) all.0.negative
+          ∙ where_not (is_tried setup.plan status 0) (trying (asks.PrmEndAfter 1) status controller.live) ends all.1)
           refl in
           subst (λ (s : Stepped). After serial number controller s)
           (sym (step_is setup controller octets ends it.of_setup turn))
-          (inr (inl (refl, ends_by setup Refused (record controller.live { refusal = Some denial.status }))))
+          (inr (inl (refl, ends_by setup Refused (record controller.live { refusal = Some status }))))
+
+  -- No turn of a place can begin while a request of the start-up waits.
+  waits_none : (next request : Request) (status : Status) (live : Live) → live.phase ≡ phase_for request → can_begin (trying next status live).live ≡ false
+  waits_none next request status live phase = elsewhere (trying next status live).live (ap is_exchanging phase ∙ unexchanging request)
+
+  -- After a response that says that the device is busy, if the plan says so, the next try waits.
+  pub tried_heard : (serial : ℕ) (controller : Controlling) (number : ℕ) (octets : List ℕ) → number ≤ write_count setup.plan
+      → Expects setup serial identity.mac (Response number) controller
+      → (denial : IsDenial setup identity (writing_from setup.plan number) octets) → is_tried setup.plan denial.status 0 ≡ true
+      → TriesAgain setup number (controller_step controller octets)
+  tried_heard serial controller number octets few it denial tried = by_request (writing_from setup.plan number) refl (parameter_is setup.plan number)
+    where
+      by_turn : (request next : Request) → writing_from setup.plan number ≡ request → tried_as request ≡ Some next → (status : Status)
+          → turn_of setup controller.live (Frame (record { items = octets })) ≡ trying next status controller.live
+          → TriesAgain setup number (controller_step controller octets)
+      by_turn request next whole is status turn =
+          subst (λ (s : Stepped). TriesAgain setup number s)
+          (sym (step_is setup controller octets (trying next status controller.live) it.of_setup turn))
+          (record { silent = refl; asked = sym (ap tried_as whole ∙ is) })
+
+      by_request : (request : Request) → writing_from setup.plan number ≡ request → IsParameter setup.plan number request
+          → TriesAgain setup number (controller_step controller octets)
+      by_request request same (inl is) =
+          let whole : writing_from setup.plan number ≡ asks.Write number = same ∙ is.1 in
+          let all : DeniedAs octets true (asks.Write number) = subst (DeniedAs octets true) whole (denial, tried) in
+          let status = all.0.status in
+          let asked = it.asked ∙ ap (λ (r : Request). Some r) whole in
+          let response = answer_to (call_for setup (asks.Write number)) status [] in
+          let again = trying (asks.WriteAfter number 1) status controller.live in
+          by_turn (asks.Write number) (asks.WriteAfter number 1) whole refl status
+          (response_turn (asks.Write number) controller.live octets all.0 asked (is_its_answer setup (number + 1)) again
+          (where_not (is_done status) (done_turn setup controller.live response.blocks (asks.Write number))
+          (undone setup controller.live status (asks.Write number)) all.0.negative
+          ∙ where_so (is_tried setup.plan status 0) again
+          (past_record setup (writing_from setup.plan (number + 1)) (noted status (first_of setup.plan number) controller.live)) all.1)
+          (waits_none (asks.WriteAfter number 1) (asks.Write number) status controller.live (it.in_phase ∙ ap phase_for whole)))
+      by_request request same (inr is) =
+          let whole : writing_from setup.plan number ≡ asks.PrmEnd = same ∙ is.1 in
+          let all : DeniedAs octets true asks.PrmEnd = subst (DeniedAs octets true) whole (denial, tried) in
+          let status = all.0.status in
+          let asked = it.asked ∙ ap (λ (r : Request). Some r) whole in
+          let response = answer_to (call_for setup asks.PrmEnd) status [] in
+          let again = trying (asks.PrmEndAfter 1) status controller.live in
+          by_turn asks.PrmEnd (asks.PrmEndAfter 1) whole refl status
+          (response_turn asks.PrmEnd controller.live octets all.0 asked (is_its_answer setup (write_count setup.plan + 1)) again
+          (where_not (is_done status) (done_turn setup controller.live response.blocks asks.PrmEnd)
+          (undone setup controller.live status asks.PrmEnd) all.0.negative
+          ∙ where_so (is_tried setup.plan status 0) again (stays (denied status controller.live)) all.1)
+          (waits_none (asks.PrmEndAfter 1) asks.PrmEnd status controller.live (it.in_phase ∙ ap phase_for whole)))
 
   -- ---- a unit
 

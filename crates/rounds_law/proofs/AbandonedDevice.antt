@@ -313,11 +313,11 @@ module _ (setup : Setup) (identity : Identity) (outcomes : List Outcome) (statio
         denial = record {
           status = status_of operation refusal.why;
           negative = negative operation refusal.why;
-          ready = never_busy operation refusal.why;
           fits = (subst (λ (messages : List Sent). AreSendable identity messages)
               (ap (λ (step : Stepped). step.sent) stepped ∙ ap (λ (s : Sent). s ∷ []) message) sendable).0.1;
           frame = ap (λ (s : Sent). bytes_of station.identity s) message ∙ ap (λ (i : Identity). bytes_of i here) same;
         };
+        ready = never_busy operation refusal.why;
         values = refl;
         unrelated = refl;
         unasked = ap (λ (a : AskedState). a.standing) refusal.asked ∙ nothing;

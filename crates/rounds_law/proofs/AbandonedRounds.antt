@@ -40,6 +40,8 @@ use Rattle.rounds_law.proofs.CompositionEnds.{Passed, passed}
 use Rattle.rounds_law.proofs.CompositionLaws.{Laws}
 use Rattle.rounds_law.proofs.CompositionLists.{arrive_first, arrives_as, hears_one, went_at}
 use Rattle.rounds_law.proofs.DeviceCallingSteps.{later_new}
+use Rattle.rounds_law.proofs.NeverBusy.{untried}
+use Rattle.controller_core.specs.start_up.Answers.{is_busy, is_tried}
 
 -- ---- the laws of each end
 
@@ -58,7 +60,7 @@ pub record HalfwayLaws (setup : Setup) (identity : Identity) : Type 0 where
   pub few : write_count setup.plan ≤ 32
   pub denied : (serial : ℕ) (controller : Controlling) (number : ℕ) (octets : List ℕ) → number ≤ write_count setup.plan
       → Expects setup serial identity.mac (Response number) controller
-      → IsDenial setup identity (writing_from setup.plan number) octets
+      → (denial : IsDenial setup identity (writing_from setup.plan number) octets) → is_tried setup.plan denial.status 0 ≡ false
       → WritesNext setup serial identity number controller (controller_step controller octets)
       ⊎ EndsFor setup identity Refused (number + 1) (controller_step controller octets)
   pub unit : (serial : ℕ) (controller : Controlling) (awaited : Awaited) → IsInPlan setup.plan awaited → Expects setup serial identity.mac awaited controller
@@ -144,6 +146,7 @@ module _ {F : Type 0} {S : ℕ} (as_flash : Flash F S) (setup next : Setup) (ide
     newer : (later : ℕ) → sequence_of setup.plan request < later → IsNewCall setup later after.device.live
     octets : List ℕ
     denial : IsDenial setup identity request octets
+    ready : is_busy denial.status ≡ false
     passed : Passed (controller_step net.controller octets) after
 
   denied_round : (serial : ℕ) (request : Request) → IsOfRelation request → IsNumbered request → (net after : Net F) → IsBare net
@@ -186,6 +189,7 @@ module _ {F : Type 0} {S : ℕ} (as_flash : Flash F S) (setup next : Setup) (ide
         newer = λ later less. ap (λ calls. cache.looked setup.activity later calls) unit.calls ∙ all.0.is.newer later less;
         octets = its.octets;
         denial = its.denial;
+        ready = its.ready;
         passed = passed as_flash net after round (its.octets ∷ []) step (all.0.sent ∙ its.frames)
             (ap (λ (fs : List (List ℕ)). hears_all net.controller (fs ++ its.octets ∷ [])) bare.silent ∙ hears_one net.controller its.octets);
       }
@@ -615,7 +619,7 @@ module _ {F : Type 0} {S : ℕ} (as_flash : Flash F S) (setup next : Setup) (ide
         → (net.controller.live.left ≡ 0) ⊎ (suc count ≤ net.controller.live.left) → EndsSoon (suc count) net
     asked_each zero number net is at patient = λ after round.
         let denied = asked_round number net after at round in
-        by_law after denied (halfway.denied serial net.controller number denied.octets at.few at.expects denied.denial)
+        by_law after denied (halfway.denied serial net.controller number denied.octets at.few at.expects denied.denial (untried setup.plan denied.denial.status 0 denied.ready))
       where
         by_law : (after : Net F) (denied : WasDenied (writing_from setup.plan number) net after)
             → WritesNext setup serial identity number net.controller (controller_step net.controller denied.octets)
@@ -626,7 +630,7 @@ module _ {F : Type 0} {S : ℕ} (as_flash : Flash F S) (setup next : Setup) (ide
     asked_each (suc count) number net is at patient = λ after round.
         let denied = asked_round number net after at round in
         by_law after denied (λ next few. asked_each count (number + 1) after (omega (arith, is)) next few)
-        (halfway.denied serial net.controller number denied.octets at.few at.expects denied.denial)
+        (halfway.denied serial net.controller number denied.octets at.few at.expects denied.denial (untried setup.plan denied.denial.status 0 denied.ready))
       where
         by_unit : (after : Net F) (denied : WasDenied (writing_from setup.plan number) net after)
             → (IsAsked (number + 1) after → (after.controller.live.left ≡ 0) ⊎ (suc count ≤ after.controller.live.left) → EndsSoon (suc count) after)
@@ -662,7 +666,7 @@ module _ {F : Type 0} {S : ℕ} (as_flash : Flash F S) (setup next : Setup) (ide
     asked_once : (number : ℕ) (net : Net F) → setup.plan.continue_on_refused_record ≡ false → IsAsked number net → EndsSoon 1 net
     asked_once number net stops at = λ after round.
         let denied = asked_round number net after at round in
-        by_law after denied (halfway.denied serial net.controller number denied.octets at.few at.expects denied.denial)
+        by_law after denied (halfway.denied serial net.controller number denied.octets at.few at.expects denied.denial (untried setup.plan denied.denial.status 0 denied.ready))
       where
         by_law : (after : Net F) (denied : WasDenied (writing_from setup.plan number) net after)
             → WritesNext setup serial identity number net.controller (controller_step net.controller denied.octets)

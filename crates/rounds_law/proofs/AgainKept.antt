@@ -46,7 +46,6 @@ use Rattle.rounds_law.specs.Again.{IsRefusal}
 use Rattle.rounds_law.proofs.DeviceCallingSteps.{first_new, step_is}
 use Rattle.rounds_law.proofs.AskedUnits.{unrepeated}
 use Rattle.rounds_law.proofs.DeviceCallingConnected.{is_connect}
-use Rattle.rounds_law.proofs.NeverBusy.{never_busy}
 
 -- ---- no relation is established while one exists
 
@@ -213,7 +212,6 @@ module _ (setup : Setup) (identity : Identity) (station : Station) (live : Live)
           record {
             status = status_of Connect because;
             negative = negative Connect because;
-            ready = never_busy Connect because;
             fits = (subst (λ (messages : List Sent). AreSendable identity messages)
                 (ap (λ (step : Stepped). step.sent) stepped ∙ ap (λ (s : Sent). s ∷ []) message) sendable).0.1;
             frame = ap (λ (s : Sent). bytes_of station.identity s) message

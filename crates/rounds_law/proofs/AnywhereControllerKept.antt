@@ -19,7 +19,6 @@ use Rattle.cyclic_data.specs.declared.exchange.route.Route.{Route}
 use Rattle.cyclic_data.specs.exchange.Cyclic.{Cyclic}
 use Rattle.cyclic_data.specs.exchange.Units.{cyclic_later}
 use Rattle.plans.specs.declared.parts.Parts.{Parts}
-use Rattle.plans.specs.Plan.{IsPlan}
 use Rattle.controller_messages.specs.declared.request.Request.{Request}
 use Rattle.controller_messages.specs.declared.request.Request.TheVariants as asks
 use Rattle.controller_messages.specs.declared.setup.Setup.{Setup}
@@ -229,10 +228,10 @@ over_kept setup cause live is = record {
   low = is.low;
 }
 
-pub released_kept : (setup : Setup) (cause : Cause) (live : Live) → IsPlan setup.plan → IsKept setup live → IsKept setup (released setup cause live).live
-released_kept setup cause live plan is = record {
+pub released_kept : (setup : Setup) (cause : Cause) (live : Live) → IsKept setup live → IsKept setup (released setup cause live).live
+released_kept setup cause live is = record {
   device = is.device;
-  asked = sequence_few setup.plan live.access.calls live.asked plan is.asked;
+  asked = sequence_few setup.plan live.access.calls live.asked is.asked;
   waited = omega arith;
   stands = refl;
   runs = tt;

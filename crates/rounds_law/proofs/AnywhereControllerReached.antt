@@ -198,7 +198,7 @@ module _ (setup : Setup) (good : IsSetup setup) (live : Live) (came : Came) (is 
   kind_kept (Addresses source) holds few = asked_kept Addressing source asks.Address (station_six source holds.0.known) tt (seeks holds.0.seeking) tt
   kind_kept (Ends cause refusal refused units) holds few = over_kept setup cause (record live { refusal = refusal; refused_record = refused; units = units }) is
   kind_kept (Releases cause refusal refused units) holds few =
-      released_kept setup cause (record live { refusal = refusal; refused_record = refused; units = units }) good.plan is
+      released_kept setup cause (record live { refusal = refusal; refused_record = refused; units = units }) is
   kind_kept (Relates places chosen) holds few = related_kept places chosen
   kind_kept (Writes number tries) holds few =
       let request = write_after number tries in

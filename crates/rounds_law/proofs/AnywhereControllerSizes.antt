@@ -148,12 +148,11 @@ tried_few plan status asks.Connect next e again few = some_none next e
 tried_few plan status (asks.Release sequence) next e again few = some_none next e
 
 -- The number of the next call has 32 bits.
-pub sequence_few : (plan : Parts) (calls : ℕ) (asked : Option Request) → IsPlan plan → AreFew asked → next_sequence plan calls asked < 4294967296
-sequence_few plan calls (Some asks.Connect) is few = omega arith
-sequence_few plan calls (Some (asks.Write number)) is few = omega (arith, few)
-sequence_few plan calls (Some (asks.WriteAfter number tries)) is few = omega (arith, few.0, few.1)
-sequence_few plan calls (Some (asks.PrmEndAfter tries)) is few = omega (arith, few, count_few plan is)
-sequence_few plan calls asked is few = mod-lt (write_count plan + 2 + calls) (omega arith)
+pub sequence_few : (plan : Parts) (calls : ℕ) (asked : Option Request) → AreFew asked → next_sequence plan calls asked < 4294967296
+sequence_few plan calls (Some asks.Connect) few = omega arith
+sequence_few plan calls (Some (asks.Write number)) few = omega (arith, few)
+sequence_few plan calls (Some (asks.WriteAfter number tries)) few = omega (arith, few.0, few.1)
+sequence_few plan calls asked few = mod-lt (write_count plan + 2 + calls) (omega arith)
 
 -- ---- messages
 

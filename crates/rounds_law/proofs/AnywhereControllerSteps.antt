@@ -215,7 +215,7 @@ module _ (laws : ControllerLaws) (controller : Controlling) (good : IsSetup cont
       → PassesWell own live (turn_of own live Tick)
   unit_by few (inl exchanges) =
       passes_well exchanges (unit_so laws own good live kept steady turning (chosen_in_exchange exchanges) alone exchanges)
-  unit_by few (inr other) = unit_well own good live kept routed alone (unplugged other) other few
+  unit_by few (inr other) = unit_well own live kept routed alone (unplugged other) other few
 
   pub unit_on : HasPatience own.options → IsAnyController own (step_of controller Tick).controller
       × AreOwn own IsAnything (step_of controller Tick).frames

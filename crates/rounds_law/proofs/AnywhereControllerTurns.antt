@@ -200,7 +200,7 @@ module _ (laws : ControllerLaws) (setup : Setup) (good : IsSetup setup) (live : 
   release_said : AreSaid setup IsAnything (Requests live.device (asks.Release (next_sequence setup.plan live.access.calls live.asked)) ∷ [])
   release_said = (
     request_said setup IsAnything live.device (asks.Release (next_sequence setup.plan live.access.calls live.asked)) kept.device
-        (sequence_few setup.plan live.access.calls live.asked good.plan kept.asked) tt,
+        (sequence_few setup.plan live.access.calls live.asked kept.asked) tt,
     tt,
   )
 

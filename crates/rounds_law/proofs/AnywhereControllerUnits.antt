@@ -19,7 +19,6 @@ use Rattle.controller_core.specs.start_up.Requests.{next_sequence}
 use Rattle.controller_core.specs.stored.State.{Live, is_limited}
 use Rattle.controller_core.specs.Machine.{Turn, brought, flow_later, flowed, gone_on, is_again, is_spent, later, plugs_by, quit, requests_of, ticked, where_due}
 use Rattle.end_laws.specs.sending.Sized.{AreFew}
-use Rattle.end_laws.specs.hearing.Stations.{IsSetup}
 use Rattle.rounds_law.proofs.AnywhereControllerKept.{IsKept, flow_kept}
 use Rattle.rounds_law.proofs.AnywhereControllerSent.{AreSaid, IsChosenIn, IsSaid, due_said, ended, request_said}
 use Rattle.rounds_law.proofs.AnywhereControllerSizes.{due_all, sequence_few}
@@ -53,7 +52,7 @@ pub record PassesWell (setup : Setup) (live : Live) (turn : Turn) : Type 0 where
   pub alone : turn.live.access.waiting ≡ None
   pub ahead : is_limited live.phase ≡ true → suc (ahead_in setup.options turn.live.left turn.live.phase) ≤ ahead_in setup.options live.left live.phase
 
-module _ (setup : Setup) (good : IsSetup setup) (live : Live) (kept : IsKept setup live) (routed : live.stands ≡ true → IsChosenIn live.cyclic.route)
+module _ (setup : Setup) (live : Live) (kept : IsKept setup live) (routed : live.stands ≡ true → IsChosenIn live.cyclic.route)
     (alone : live.access.waiting ≡ None) (unplugged : live.access.plug ≡ None) (other : live.phase ≡ Exchanging → ⊥)
     (timed : is_limited live.phase ≡ true → 1 ≤ live.left) where
   over_well : (turn : Turn) → AreSaid setup IsAnything turn.sent → turn.live.stands ≡ false → turn.live.access.waiting ≡ None
@@ -68,7 +67,7 @@ module _ (setup : Setup) (good : IsSetup setup) (live : Live) (kept : IsKept set
   release_said : AreSaid setup IsAnything (Requests live.device (asks.Release (next_sequence setup.plan live.access.calls live.asked)) ∷ [])
   release_said = (
     request_said setup IsAnything live.device (asks.Release (next_sequence setup.plan live.access.calls live.asked)) kept.device
-        (sequence_few setup.plan live.access.calls live.asked good.plan kept.asked) tt,
+        (sequence_few setup.plan live.access.calls live.asked kept.asked) tt,
     tt,
   )
 

@@ -222,41 +222,45 @@ module _ (setup next : Setup) (identity : Identity) (silence : ℕ) (station : S
       → uuid_of (updated (Named (partner_of caller)) (updated (Parameterized by_application) link)) ≡ uuid_of link
   ended_named by_application link = restarted_named (updated (Parameterized by_application) link) ∙ parameterized_named by_application link
 
-  abbrev control_by : Live → Result ControlBlock CallFault → Handled
-  control_by live ended =
+  -- A call of the controller after its Connect.
+  record IsLater (call : Call) : Type 0 where
+    own : call.header.activity ≡ setup.activity
+    number : (call.header.sequence == 0) ≡ false
+
+  abbrev control_by : Live → Call → Result ControlBlock CallFault → Handled
+  control_by live call ended =
       let by_application = station.options.ready_by_application in
       let link = updated (answered (Named (partner_of caller)) ended) (updated (answered (Parameterized by_application) ended) live.rest.link) in
-      served station live caller (call_for setup asks.PrmEnd) Control (ended >>= λ block. Ok (block_bytes (is.PrmEndRes (done_of block)))) link
+      served station live caller call Control (ended >>= λ block. Ok (block_bytes (is.PrmEndRes (done_of block)))) link
       (ready_behind by_application live.values.running.suite.address link ended)
 
-  control_fine : (live : Live) → IsAnyDevice setup next identity silence station live
-      → Fine live (handled_new station live caller (call_for setup asks.PrmEnd) (blocks_of setup asks.PrmEnd) Control)
-  control_fine live before =
+  control_fine : (live : Live) → IsAnyDevice setup next identity silence station live → (call : Call) → IsLater call
+      → Fine live (handled_new station live caller call (blocks_of setup asks.PrmEnd) Control)
+  control_fine live before call later =
       let blocks = blocks_of setup asks.PrmEnd in
       subst (Fine live) (sym (where_not (is_plug_control blocks live.rest.link)
-      (handled_plug_end station live caller (call_for setup asks.PrmEnd) blocks) (control_by live (prm_end_of live.rest.link blocks))
+      (handled_plug_end station live caller call blocks) (control_by live call (prm_end_of live.rest.link blocks))
       (not_of_plug live.rest.link (control_of setup 1)))) (by_outcome (prm_end_of live.rest.link blocks) refl)
     where
       by_outcome : (ended : Result ControlBlock CallFault) → prm_end_of live.rest.link (blocks_of setup asks.PrmEnd) ≡ ended
-          → Fine live (control_by live ended)
+          → Fine live (control_by live call ended)
       by_outcome (Ok block) e =
           let by_application = station.options.ready_by_application in
           let after = updated (Named (partner_of caller)) (updated (Parameterized by_application) live.rest.link) in
           let lasts = restarted_lasts setup silence (partner_of caller) (updated (Parameterized by_application) live.rest.link)
           (parameterized_lasts setup silence by_application live.rest.link (end_timed (blocks_of setup asks.PrmEnd) live.rest.link block e) before.lasts) in
           served_move setup next identity silence station laws live before
-          live.rest refl (call_for setup asks.PrmEnd) refl live.values.running.suite.address Control
+          live.rest refl call later.own live.values.running.suite.address Control
           (Ok (block_bytes (is.PrmEndRes (done_of block))))
-          (fit_later setup next identity silence station laws (call_for setup asks.PrmEnd) (block_bytes (is.PrmEndRes (done_of block)))
-          (not_first (write_count setup.plan))) after lasts
+          (fit_later setup next identity silence station laws call (block_bytes (is.PrmEndRes (done_of block))) later.number) after lasts
           (subst (λ (uuid : Option (List ℕ)). IsQuestionOf setup next uuid live.rest.asked.standing)
           (sym (ended_named by_application live.rest.link)) before.asked)
           (ready_behind by_application live.values.running.suite.address after (Ok block))
           (behind_fits by_application live.values.running.suite.address after block lasts)
       by_outcome (Err refusal) e =
           served_move setup next identity silence station laws live before
-          live.rest refl (call_for setup asks.PrmEnd) refl live.values.running.suite.address Control (Err refusal)
-          (fit_no setup next identity silence station laws (call_for setup asks.PrmEnd) Control refusal) live.rest.link before.lasts before.asked [] tt
+          live.rest refl call later.own live.values.running.suite.address Control (Err refusal)
+          (fit_no setup next identity silence station laws call Control refusal) live.rest.link before.lasts before.asked [] tt
 
   -- ---- Write
 
@@ -305,55 +309,54 @@ module _ (setup next : Setup) (identity : Identity) (silence : ℕ) (station : S
       → IsQuestionOf setup next (uuid_of link) live.rest.asked.standing
   same_asked live before link same = subst (λ (uuid : Option (List ℕ)). IsQuestionOf setup next uuid live.rest.asked.standing) (sym same) before.asked
 
-  kept_fine : (live : Live) → IsAnyDevice setup next identity silence station live → (number : ℕ) (header : IodWriteReq) (kept : Result Records CallFault)
-      → Fine live (served station live caller (call_for setup (asks.Write number)) Write (kept_answer header kept)
+  kept_fine : (live : Live) → IsAnyDevice setup next identity silence station live → (call : Call) → IsLater call → (header : IodWriteReq) (kept : Result Records CallFault)
+      → Fine live (served station live caller call Write (kept_answer header kept)
       (updated (answered (Named (partner_of caller)) kept) (updated (taking kept) live.rest.link)) [])
-  kept_fine live before number header (Ok records) =
+  kept_fine live before call later header (Ok records) =
       served_move setup next identity silence station laws live before
-      live.rest refl (call_for setup (asks.Write number)) refl live.values.running.suite.address Write (kept_answer header (Ok records))
-      (fit_later setup next identity silence station laws (call_for setup (asks.Write number)) (answer_of header) (not_first number))
+      live.rest refl call later.own live.values.running.suite.address Write (kept_answer header (Ok records))
+      (fit_later setup next identity silence station laws call (answer_of header) later.number)
       (updated (Named (partner_of caller)) (updated (Took records) live.rest.link))
       (restarted_lasts setup silence (partner_of caller) (updated (Took records) live.rest.link) (records_last setup silence records live.rest.link before.lasts))
       (same_asked live before (updated (Named (partner_of caller)) (updated (Took records) live.rest.link))
       (restarted_named (updated (Took records) live.rest.link) ∙ took_named (Ok records) live.rest.link)) [] tt
-  kept_fine live before number header (Err refusal) =
+  kept_fine live before call later header (Err refusal) =
       served_move setup next identity silence station laws live before
-      live.rest refl (call_for setup (asks.Write number)) refl live.values.running.suite.address Write (Err refusal)
-      (fit_no setup next identity silence station laws (call_for setup (asks.Write number)) Write refusal) live.rest.link before.lasts before.asked [] tt
+      live.rest refl call later.own live.values.running.suite.address Write (Err refusal)
+      (fit_no setup next identity silence station laws call Write refusal) live.rest.link before.lasts before.asked [] tt
 
-  writing_fine : (live : Live) → IsAnyDevice setup next identity silence station live → (number : ℕ) (writing : Result Writing CallFault)
+  writing_fine : (live : Live) → IsAnyDevice setup next identity silence station live → (call : Call) → IsLater call → (writing : Result Writing CallFault)
       → IsQuiet station.named (uuid_of live.rest.link) live.rest.real writing
-      → Fine live (handled_write station live caller (call_for setup (asks.Write number)) writing)
-  writing_fine live before number (Err refusal) quiet =
+      → Fine live (handled_write station live caller call writing)
+  writing_fine live before call later (Err refusal) quiet =
       served_move setup next identity silence station laws live before
-      live.rest refl (call_for setup (asks.Write number)) refl live.values.running.suite.address Write (Err refusal)
-      (fit_no setup next identity silence station laws (call_for setup (asks.Write number)) Write refusal) live.rest.link before.lasts before.asked [] tt
-  writing_fine live before number (Ok (One write)) quiet =
-      subst (λ (effect : Effect). Fine live (handled_effect station live caller (call_for setup (asks.Write number)) write.request effect)) (sym quiet.1)
-      (kept_fine live before number write.request (keeping quiet.0 live.rest.link))
-  writing_fine live before number (Ok (Each header entries)) quiet =
+      live.rest refl call later.own live.values.running.suite.address Write (Err refusal)
+      (fit_no setup next identity silence station laws call Write refusal) live.rest.link before.lasts before.asked [] tt
+  writing_fine live before call later (Ok (One write)) quiet =
+      subst (λ (effect : Effect). Fine live (handled_effect station live caller call write.request effect)) (sym quiet.1)
+      (kept_fine live before call later write.request (keeping quiet.0 live.rest.link))
+  writing_fine live before call later (Ok (Each header entries)) quiet =
       let judged = judged_each station.named (uuid_of live.rest.link) live.rest.real entries in (
         quiet,
         served_move setup next identity silence station laws live before
-            live.rest refl (call_for setup (asks.Write number)) refl live.values.running.suite.address Write
+            live.rest refl call later.own live.values.running.suite.address Write
             (Ok (several_answer header judged [] live.rest.link))
-            (fit_later setup next identity silence station laws (call_for setup (asks.Write number)) (several_answer header judged [] live.rest.link)
-            (not_first number))
+            (fit_later setup next identity silence station laws call (several_answer header judged [] live.rest.link)
+            later.number)
             (updated (Named (partner_of caller)) (link_behind judged live.rest.link))
             (restarted_lasts setup silence (partner_of caller) (link_behind judged live.rest.link) (each_lasts judged live.rest.link before.lasts))
             (same_asked live before (updated (Named (partner_of caller)) (link_behind judged live.rest.link))
             (restarted_named (link_behind judged live.rest.link) ∙ each_named judged live.rest.link)) [] tt,
       )
 
-  write_fine : (live : Live) → IsAnyDevice setup next identity silence station live → (number : ℕ) → number < 65536
-      → Fine live (handled_new station live caller (call_for setup (asks.Write number)) (blocks_of setup (asks.Write number)) Write)
-  write_fine live before number small =
-      let call = call_for setup (asks.Write number) in
+  write_fine : (live : Live) → IsAnyDevice setup next identity silence station live → (call : Call) → IsLater call → (number : ℕ) → number < 65536
+      → Fine live (handled_new station live caller call (blocks_of setup (asks.Write number)) Write)
+  write_fine live before call later number small =
       let blocks = blocks_of setup (asks.Write number) in
       let unasked = ap (λ (real : Real). asking_of real station.named (uuid_of live.rest.link) caller call blocks Write) before.of_plan.plugged
       ∙ laws.unasked number small (uuid_of live.rest.link) caller call in
       subst (λ (asking : Result (Option Question) CallFault). Fine live (handled_asking station live caller call blocks Write asking)) (sym unasked)
-      (writing_fine live before number (writing_of (uuid_of live.rest.link) live.rest.real blocks)
+      (writing_fine live before call later (writing_of (uuid_of live.rest.link) live.rest.real blocks)
       (subst (λ (real : Real). IsQuiet station.named (uuid_of live.rest.link) real (writing_of (uuid_of live.rest.link) real blocks))
       (sym before.of_plan.plugged) (laws.quiet number small (uuid_of live.rest.link))))
 
@@ -524,19 +527,40 @@ module _ (setup next : Setup) (identity : Identity) (silence : ℕ) (station : S
       said_fine live call Connect (blocks_of setup asks.Connect) refl is_connect refl
       (looked_fine live before call refl (blocks_of setup asks.Connect) Connect (connect_fine live before))
 
+  later_call : (call : Call) → call.header.activity ≡ setup.activity → (number : ℕ) → call.header.sequence ≡ number + 1 → IsLater call
+  later_call call own number is = record { own = own; number = ap (λ (n : ℕ). n == 0) is ∙ not_first number }
+
   pub write_said : (live : Live) → IsAnyDevice setup next identity silence station live → (number : ℕ) → number < 65536
       → Fine live (handled_said station live caller (Calls (call_for setup (asks.Write number))))
   write_said live before number small =
       let call = call_for setup (asks.Write number) in
       said_fine live call Write (blocks_of setup (asks.Write number)) refl is_write refl
-      (looked_fine live before call refl (blocks_of setup (asks.Write number)) Write (write_fine live before number small))
+      (looked_fine live before call refl (blocks_of setup (asks.Write number)) Write
+      (write_fine live before call (later_call call refl number refl) number small))
+
+  pub write_again_said : (live : Live) → IsAnyDevice setup next identity silence station live → (number tries : ℕ) → number < 65536
+      → Fine live (handled_said station live caller (Calls (call_for setup (asks.WriteAfter number tries))))
+  write_again_said live before number tries small =
+      let call = call_for setup (asks.WriteAfter number tries) in
+      said_fine live call Write (blocks_of setup (asks.Write number)) refl is_write refl
+      (looked_fine live before call refl (blocks_of setup (asks.Write number)) Write
+      (write_fine live before call (later_call call refl (number + tries) refl) number small))
 
   pub prm_end_said : (live : Live) → IsAnyDevice setup next identity silence station live
       → Fine live (handled_said station live caller (Calls (call_for setup asks.PrmEnd)))
   prm_end_said live before =
       let call = call_for setup asks.PrmEnd in
       said_fine live call Control (blocks_of setup asks.PrmEnd) refl is_control refl
-      (looked_fine live before call refl (blocks_of setup asks.PrmEnd) Control (control_fine live before))
+      (looked_fine live before call refl (blocks_of setup asks.PrmEnd) Control
+      (control_fine live before call (later_call call refl (write_count setup.plan) refl)))
+
+  pub prm_end_again_said : (live : Live) → IsAnyDevice setup next identity silence station live → (tries : ℕ)
+      → Fine live (handled_said station live caller (Calls (call_for setup (asks.PrmEndAfter tries))))
+  prm_end_again_said live before tries =
+      let call = call_for setup (asks.PrmEndAfter tries) in
+      said_fine live call Control (blocks_of setup asks.PrmEnd) refl is_control refl
+      (looked_fine live before call refl (blocks_of setup asks.PrmEnd) Control
+      (control_fine live before call (later_call call refl (write_count setup.plan + tries) refl)))
 
   pub release_said : (live : Live) → IsAnyDevice setup next identity silence station live → (sequence : ℕ)
       → Fine live (handled_said station live caller (Calls (call_for setup (asks.Release sequence))))

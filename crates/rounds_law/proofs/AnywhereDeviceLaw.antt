@@ -62,7 +62,7 @@ use Rattle.rounds_law.specs.AnywhereFrames.{IsAnything, IsOwn}
 use Rattle.rounds_law.specs.Rounds.{Goes}
 use Rattle.rounds_law.proofs.AgainUnset.{asks_unset}
 use Rattle.rounds_law.proofs.AnywhereDeviceAnswers.{CallLaws}
-use Rattle.rounds_law.proofs.AnywhereDeviceCalls.{connect_said, plug_said, prm_end_said, release_said, write_said}
+use Rattle.rounds_law.proofs.AnywhereDeviceCalls.{connect_said, plug_said, prm_end_again_said, prm_end_said, release_said, write_again_said, write_said}
 use Rattle.rounds_law.proofs.AnywhereDeviceExchange.{alarm_fine, cyclic_fine, low_confirm_fine, low_reply_fine, response_fine, unit_fine}
 use Rattle.rounds_law.proofs.AnywhereDeviceFine.{IsFine, fine_after, fine_sized, stored_before}
 use Rattle.rounds_law.proofs.PlanKept.{IsUnsaid, handled_stays}
@@ -230,6 +230,10 @@ module _ {F : Type 0} {S : ℕ} (as_flash : Flash F S) (setup next : Setup) (ide
     request_goes (asks.Write number) numbered =
         call_goes (call_for setup (asks.Write number)) (write_said setup next identity silence station calls live before number numbered)
     request_goes asks.PrmEnd numbered = call_goes (call_for setup asks.PrmEnd) (prm_end_said setup next identity silence station calls live before)
+    request_goes (asks.WriteAfter number tries) numbered =
+        call_goes (call_for setup (asks.WriteAfter number tries)) (write_again_said setup next identity silence station calls live before number tries numbered.0)
+    request_goes (asks.PrmEndAfter tries) numbered =
+        call_goes (call_for setup (asks.PrmEndAfter tries)) (prm_end_again_said setup next identity silence station calls live before tries)
     request_goes (asks.Release sequence) numbered =
         call_goes (call_for setup (asks.Release sequence)) (release_said setup next identity silence station calls live before sequence)
 

@@ -15,6 +15,8 @@ use Rattle.controller_messages.specs.Requests.{sequence_of, write_count, writing
 use Rattle.controller_core.specs.declared.stored.state.State.{State as Phases}
 use Rattle.controller_core.specs.declared.stored.state.State.TheVariants.{Ended, Waiting}
 use Rattle.controller_core.specs.declared.stored.state.Cause.{Cause}
+use Rattle.controller_core.specs.start_up.Answers.{is_busy}
+use Rattle.controller_core.specs.start_up.Requests.{tried_as}
 use Rattle.controller_core.specs.stored.State.{Controlling, phase_for}
 use Rattle.controller_core.specs.Machine.{Stepped}
 use Rattle.rounds_law.specs.Path.{AllAnswered, AsksNothing, IsAddressed, IsNamed, IsOutputs, IsSized, request_to, route_to}
@@ -44,12 +46,13 @@ IsOfRelation (asks.Release sequence) = Unit {0}
 IsOfRelation (asks.WriteAfter number tries) = Unit {0}
 IsOfRelation (asks.PrmEndAfter tries) = Unit {0}
 
--- A device without a relation sends a negative response to this call. It still has no relation, and asks its application nothing. A later call
--- is still a new one, and it has stored no answer of another activity.
+-- A device without a relation sends a negative response to this call, and not because it is busy. It still has no relation, and asks its
+-- application nothing. A later call is still a new one, and it has stored no answer of another activity.
 pub record Denies (setup : Setup) (identity : Identity) (request : Request) (live : Live) (step : DeviceStepped) : Type 0 where
   pub octets : List ℕ
   pub frames : step.frames ≡ octets ∷ []
   pub denial : IsDenial setup identity request octets
+  pub ready : is_busy denial.status ≡ false
   pub values : step.live.values ≡ live.values
   pub unrelated : step.live.rest.link ≡ None
   pub unasked : AsksNothing step.live
@@ -138,6 +141,11 @@ EndsFor setup identity cause last step =
 abbrev pub repeated : Setup → Identity → Awaited → List (List ℕ)
 repeated setup identity (Response number) = request_to setup identity (writing_from setup.plan number) ∷ []
 repeated setup identity Readiness = []
+
+-- After a response that says that the device is busy: the controller sends nothing, and its request is the next try of the same call.
+pub record TriesAgain (setup : Setup) (number : ℕ) (step : Stepped) : Type 0 where
+  pub silent : step.frames ≡ []
+  pub asked : step.controller.live.asked ≡ tried_as (writing_from setup.plan number)
 
 -- It still waits after a unit. The unit that completes a second sends the request again. Outputs may follow.
 pub record StillExpects (setup : Setup) (serial : ℕ) (identity : Identity) (awaited : Awaited) (before : Controlling) (step : Stepped) : Type 0 where

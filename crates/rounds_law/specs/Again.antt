@@ -25,7 +25,7 @@ use Rattle.controller_messages.specs.Requests.{address_asked, call_for}
 use Rattle.controller_core.specs.declared.stored.state.State.TheVariants.{Ended, Exchanging}
 use Rattle.controller_core.specs.declared.stored.state.Cause.{Cause}
 use Rattle.controller_core.specs.declared.stored.state.Cause.TheVariants.{DataHold}
-use Rattle.controller_core.specs.start_up.Answers.{is_state_conflict, is_busy}
+use Rattle.controller_core.specs.start_up.Answers.{is_state_conflict}
 use Rattle.controller_core.specs.stored.State.{Controlling}
 use Rattle.controller_core.specs.Machine.{Stepped, first as first_live, opening_of}
 use Rattle.network_world.specs.World.{is_ended}
@@ -64,11 +64,10 @@ pub record HasEarlier (setup : Setup) (left : ℕ) (live : Live) : Type 0 where
 
 -- ---- the frames of a device that refuses
 
--- A negative response to a call, not because the device is busy: a controller may try such a call again.
+-- A negative response to a call.
 pub record IsDenial (setup : Setup) (identity : Identity) (request : Request) (octets : List ℕ) : Type 0 where
   pub status : Status
   pub negative : is_done status ≡ false
-  pub ready : is_busy status ≡ false
   pub fits : CanBeAnswered (answer_to (call_for setup request) status [])
   pub frame : octets ≡ response_frame identity (caller_of setup.plan.controller) setup.plan.station.suite.address
       (answer_to (call_for setup request) status [])

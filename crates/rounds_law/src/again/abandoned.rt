@@ -16,7 +16,8 @@ ghost use Rattle.rounds_law.specs.Path.{AsksNothing, controller_step, device_ste
 ghost use Rattle.rounds_law.specs.Repeating.{completes, counts_on};
 ghost use Rattle.rounds_law.specs.Again.{HasEnded, IsDenial};
 ghost use Rattle.rounds_law.specs.Abandoned.{Awaited, Denies, EndsFor, Expects, IsInPlan, IsNewCall, IsOfRelation, IsReleasing};
-ghost use Rattle.rounds_law.specs.Abandoned.{Releases, Response, StillExpects, WritesNext, is_reached, last_call};
+ghost use Rattle.rounds_law.specs.Abandoned.{Releases, Response, StillExpects, TriesAgain, WritesNext, is_reached, last_call};
+ghost use Rattle.controller_core.specs.start_up.Answers.{is_tried};
 
 use controller_messages::Setup;
 use end_laws::{calls_are_heard, calls_can_be_sent, responses_are_heard, stations_are_real};
@@ -51,12 +52,18 @@ pub fn controller_ends_halfway(setup: &Setup, identity: &Identity)
     // A plan has at most 32 Writes.
     ensures few { write_count setup.now.plan ≤ 32 }
     // After a negative response to a Write it ends, because it was refused, unless the plan goes on after a refused record: then it sends what
-    // follows the Write. After a negative response to PrmEnd it ends.
+    // follows the Write. After a negative response to PrmEnd it ends. So it is unless the plan has PersistentStart and the device is busy.
     ensures denied { (serial : ℕ) (controller : Controlling) (number : ℕ) (octets : List ℕ) → number ≤ write_count setup.now.plan
         → Expects setup.now serial identity.now.mac (Response number) controller
-        → IsDenial setup.now identity.now (writing_from setup.now.plan number) octets
+        → (denial : IsDenial setup.now identity.now (writing_from setup.now.plan number) octets) → is_tried setup.now.plan denial.status 0 ≡ false
         → WritesNext setup.now serial identity.now number controller (controller_step controller octets)
         ⊎ EndsFor setup.now identity.now Refused (number + 1) (controller_step controller octets) }
+    // If the plan has PersistentStart, and the response says that the device is busy, it sends nothing, and its request is the same call again,
+    // with the next number.
+    ensures tried { (serial : ℕ) (controller : Controlling) (number : ℕ) (octets : List ℕ) → number ≤ write_count setup.now.plan
+        → Expects setup.now serial identity.now.mac (Response number) controller
+        → (denial : IsDenial setup.now identity.now (writing_from setup.now.plan number) octets) → is_tried setup.now.plan denial.status 0 ≡ true
+        → TriesAgain setup.now number (controller_step controller octets) }
     // The last unit of its patience ends it, and it sends a Release. After each other unit it still waits.
     ensures unit { (serial : ℕ) (controller : Controlling) (awaited : Awaited) → IsInPlan setup.now.plan awaited → Expects setup.now serial identity.now.mac awaited controller
         → ((controller.live.left ≡ 1) × Releases setup.now identity.now NoProgress (last_call setup.now.plan awaited) (step_of controller Tick))

@@ -1,4 +1,4 @@
-use Rattle.rounds_law.proofs.AbandonedController.{denied_heard, released_heard, releasing_unit, unit_passed}
+use Rattle.rounds_law.proofs.AbandonedController.{denied_heard, released_heard, releasing_unit, tried_heard, unit_passed}
 use Rattle.rounds_law.proofs.ControllerCallingAsks.{count_few}
 use Rattle.rounds_law.proofs.again.abandoned.controller_ends_halfway.Goals as goal
 
@@ -7,6 +7,10 @@ returns-clause-few c = count_few c.args.setup.now.plan c.stations_are_real.ensur
 
 pub returns-clause-denied : goal.returns-clause-denied
 returns-clause-denied c = denied_heard c.args.setup.now c.args.identity.now c.stations_are_real.ensures.setup c.stations_are_real.ensures.device
+    c.responses_are_heard.ensures.controller
+
+pub returns-clause-tried : goal.returns-clause-tried
+returns-clause-tried c = tried_heard c.args.setup.now c.args.identity.now c.stations_are_real.ensures.setup c.stations_are_real.ensures.device
     c.responses_are_heard.ensures.controller
 
 pub returns-clause-unit : goal.returns-clause-unit
