@@ -69,6 +69,8 @@ operates asks.Address called = absurd called
 operates asks.Connect called = (Connect, refl, λ options. refl)
 operates (asks.Write number) called = (Write, refl, λ options. refl)
 operates asks.PrmEnd called = (Control, refl, λ options. refl)
+operates (asks.WriteAfter number tries) called = (Write, refl, λ options. refl)
+operates (asks.PrmEndAfter tries) called = (Control, refl, λ options. refl)
 operates (asks.Release sequence) called = (Release, refl, λ options. refl)
 
 pub is_call : (setup : Setup) (identity : Identity) (request : Request) → IsCalled request
@@ -78,6 +80,8 @@ is_call setup identity asks.Address called = absurd called
 is_call setup identity asks.Connect called = refl
 is_call setup identity (asks.Write number) called = refl
 is_call setup identity asks.PrmEnd called = refl
+is_call setup identity (asks.WriteAfter number tries) called = refl
+is_call setup identity (asks.PrmEndAfter tries) called = refl
 is_call setup identity (asks.Release sequence) called = refl
 
 module _ (setup : Setup) (identity : Identity) (outcomes : List Outcome) (station : Station) (live : Live) (request : Request) (kept : Kept)
