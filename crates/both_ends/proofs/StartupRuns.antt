@@ -91,7 +91,7 @@ access_exchanges count sequence now (inl releases) = absurd (not_releases releas
   where
     not_releases : small.Accesses ≡ small.Releases → ⊥
     not_releases e = cc
-access_exchanges count sequence now (inr (inl asked)) = absurd asked.1
+access_exchanges count sequence now (inr (inl calling)) = absurd calling.asked
 access_exchanges count sequence now (inr (inr accesses)) = accesses.1
 
 module _ {F : Type 0} where

@@ -35,7 +35,7 @@ module _ {T Q : Type 0} (rules : Rules T Q) where
       response_on sequence reply tells = record {
         old = grows.older sequence tells.old;
         now = λ is. record {
-          refused = λ no. grows.held (subst (λ (n : ℕ). IsOld n kept) is tells.old) ((tells.now is).refused no);
+          refused = λ refused. grows.held (subst (λ (n : ℕ). IsOld n kept) is tells.old) ((tells.now is).refused refused);
           well = λ yes few strict. grows.took at.stage ((tells.now is).well yes few strict);
         };
         later = λ more done. grows.gone sequence tells.old (omega (arith, more)) (tells.later more done);

@@ -415,8 +415,8 @@ module _ {T Q : Type 0} (rules : Rules T Q) where
     module _ (sequence : ℕ) (ask : Ask) (reply : Reply) (kept : Option Kept) (link after : Option (RelationState T Q)) (frame : List ℕ) (new : IsNew sequence kept)
         (comes : Comes rules reply ask link after) (unconfirmed : Unconfirmed link) (first : at.stage ≡ 0 → at.number ≡ 0) (behind : Behind rules at.stage kept link)
         (holds : HoldsAt rules at kept link) where
-      abbrev answer : Option Kept
-      answer = Some (record { sequence = sequence; frame = frame })
+      abbrev stored : Option Kept
+      stored = Some (record { sequence = sequence; frame = frame })
 
       goes_release : ask ≡ Releases → (after ≡ link) ⊎ (after ≡ None)
       goes_release is = released_now reply link after (subst (λ (a : Ask). Comes rules reply a link after) is comes)
@@ -427,7 +427,7 @@ module _ {T Q : Type 0} (rules : Rules T Q) where
       new_at : sequence ≡ at.number → IsNew at.number kept
       new_at is = subst (λ (n : ℕ). IsNew n kept) is new
 
-      answer_grows : IsNewCall sequence ask → Grows rules at kept link answer after
+      answer_grows : IsNewCall sequence ask → Grows rules at kept link stored after
       answer_grows (inl is) = record {
         took = λ count took. record { called = tt; taken = took_same link after (size count) (goes_release is) took.taken };
         newer = newer_on sequence kept frame new;
@@ -443,7 +443,7 @@ module _ {T Q : Type 0} (rules : Rules T Q) where
         gone = λ other old more none. absurd (never_both at.number other kept more (new_at current.0) old);
       }
 
-      answer_holds : IsNewCall sequence ask → HoldsAt rules at answer after
+      answer_holds : IsNewCall sequence ask → HoldsAt rules at stored after
       answer_holds (inl is) = holds_same sequence frame kept link after new (goes_release is) holds
       answer_holds (inr current) = (
         held_by at.stage ask kept link after current.1 behind may (held_before at kept link (new_at current.0) holds),
@@ -452,8 +452,8 @@ module _ {T Q : Type 0} (rules : Rules T Q) where
 
       -- what the response reports
       answer_refused : sequence ≡ at.number → reply.done ≡ false → IsHeldIn rules (earlier at.stage) after
-      answer_refused is no =
-          subst (λ (l : Option (RelationState T Q)). IsHeldIn rules (earlier at.stage) l) (sym (refused_by ask reply.done reply.blocks link after no comes))
+      answer_refused is refused =
+          subst (λ (l : Option (RelationState T Q)). IsHeldIn rules (earlier at.stage) l) (sym (refused_by ask reply.done reply.blocks link after refused comes))
           (held_before at kept link (new_at is) holds)
 
       release_done : ask ≡ Releases → reply.done ≡ true → after ≡ None
@@ -461,7 +461,7 @@ module _ {T Q : Type 0} (rules : Rules T Q) where
           accepted_by Releases reply.done reply.blocks link after done (subst (λ (a : Ask). Comes rules reply a link after) is comes)
 
       answer_well : IsNewCall sequence ask → (reply.done && rules.grants at.stage reply.blocks) ≡ true → at.stage ≤ rules.count → rules.skips ≡ false
-          → Took rules at.stage answer after
+          → Took rules at.stage stored after
       answer_well (inl is) well few strict =
           let parts = and_parts reply.done (rules.grants at.stage reply.blocks) well in
           record { called = tt; taken = subst (λ (l : Option (RelationState T Q)). TookIn (size at.stage) l) (sym (release_done is parts.0)) tt }
@@ -476,7 +476,7 @@ module _ {T Q : Type 0} (rules : Rules T Q) where
       answer_later (inl is) more done = release_done is done
       answer_later (inr current) more done = absurd (omega (arith, more, current.0))
 
-      answer_tells : IsNewCall sequence ask → IsResponse rules at answer after sequence reply
+      answer_tells : IsNewCall sequence ask → IsResponse rules at stored after sequence reply
       answer_tells call = record {
         old = omega arith;
         now = λ is. record { refused = answer_refused is; well = answer_well call };

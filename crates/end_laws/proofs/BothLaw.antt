@@ -59,7 +59,7 @@ module _ {T Q : Type 0} (rules : Rules T Q) where
       response_next sequence reply tells = record {
         old = tells.old;
         now = λ is. record {
-          refused = λ no. before;
+          refused = λ refused. before;
           well = λ well few strict. record {
             called = some_old sequence kept tells.old;
             taken = subst (λ (l : Option (RelationState T Q)). TookIn (length (records_before rules next.stage)) l)
