@@ -1,10 +1,10 @@
 -- Each positive response to the Connect that is in a network is that of the relation of its device: if no module differs in it, nothing
 -- that the Connect expects differed as the relation was made.
-use Rattle.std.proofs.Common.{◌≡◌, ◌⊎◌, inl, inr, ◌==◌, ◌&&◌, ◌++◌, ◌<◌, ℕ, Bool, true, cond, List, [], ◌∷◌, map, Option, Some, None, option_map, Result, Ok, Err, refl, sym, ap, subst, ◌∙◌, arith}
-use Rattle.std.specs.Prelude.{nat_eq, unwrap_or}
+use Rattle.std.proofs.Common.{◌≡◌, ◌⊎◌, inl, inr, ◌==◌, ◌&&◌, ◌++◌, ◌<◌, ℕ, Bool, true, false, cond, List, [], ◌∷◌, map, Option, Some, None, option_map, Result, Ok, Err, refl, sym, ap, subst, ◌∙◌, arith}
+use Rattle.std.specs.Prelude.{nat_eq, nat_lt, unwrap_or}
 use Rattle.std.specs.List.{AllByRecursion}
 use Rattle.std.specs.Cmp.Lexicographic.{pointwise}
-use Rattle.std.proofs.lemmas.Bool.{and_parts, eqb-true, false≢true}
+use Rattle.std.proofs.lemmas.Bool.{and_parts, eqb-true, false≢true, ltb-true}
 use Rattle.flash_model.specs.declared.flash.Flash.{Ghosts as Flash}
 use Rattle.settings_journal.specs.settings_store.Machine.{Outcome}
 use Rattle.pn_values.specs.declared.real.RealModule.{RealModule}
@@ -31,15 +31,16 @@ use Rattle.controller_messages.specs.declared.request.Request.TheVariants as ask
 use Rattle.controller_messages.specs.declared.setup.Setup.{Setup}
 use Rattle.controller_messages.specs.Heard as controller
 use Rattle.controller_messages.specs.Heard.{heard_of as heard_by, is_to}
+use Rattle.controller_messages.specs.Requests.{write_count, writing_blocks}
 use Rattle.controller_messages.specs.Sent as said
 use Rattle.controller_core.specs.start_up.Answers.{is_answer}
 use Rattle.network_world.specs.World.{AtDevice, World}
 use Rattle.end_laws.specs.both.Small as small
-use Rattle.end_laws.specs.both.Small.{Rules, ToDevice}
+use Rattle.end_laws.specs.both.Small.{Reply, Rules, ToDevice, reply_of}
 use Rattle.end_laws.specs.both.Steps.{DeviceSteps, IsAnswered, IsDull, IsNew, IsReady, SaysAtMost}
-use Rattle.end_laws.specs.controller.Small.{is_positive, said_to, says_written}
+use Rattle.end_laws.specs.controller.Small.{said_to}
 use Rattle.end_laws.specs.device.Does.{Does, IsEffect, IsUncalled, Serves, readied_from}
-use Rattle.end_laws.specs.device.Small.{IsPlanned, IsPlannedAs, IsPlannedCall, asked_by, heard_as, kept_in, small_of, written_by}
+use Rattle.end_laws.specs.device.Small.{IsPlanned, IsPlannedAs, IsPlannedCall, asked_by, heard_as, kept_in, number_in, small_of, written_by}
 use Rattle.end_laws.specs.hearing.Stations.{IsCaller, IsDevice}
 use Rattle.both_ends.specs.startup.View.{IsMeantAtDevice, IsSaidAs, is_planned, rules_of}
 use Rattle.both_ends.specs.exchange.Sized.{AreSizedModules}
@@ -61,17 +62,16 @@ abbrev pub TellsIn : Type 0 → Setup → List ℕ → Type 0
 TellsIn Clear setup frame = TellsSo Clear setup (heard_by setup.plan.controller frame)
 
 module _ (setup : Setup) where
-  said_positive : (response : Response) → is_answer setup asks.Connect response.header ≡ true → is_done response.status ≡ true
-      → said_to setup (controller.Responds response) ≡ small.Answers 0 true
-  said_positive response is done =
+  said_answer : (response : Response) → is_answer setup asks.Connect response.header ≡ true
+      → said_to setup (controller.Responds response) ≡ small.Answers 0 (reply_of response)
+  said_answer response is =
       let parts = and_parts (pointwise nat_eq response.header.activity setup.activity) (response.header.sequence == 0) is in
-      ap (λ (b : Bool). cond b (small.Answers response.header.sequence (is_positive setup.plan response)) small.Nothing) parts.0
-      ∙ (ap (λ (n : ℕ). small.Answers n (is_done response.status && says_written setup.plan n response.blocks)) (eqb-true response.header.sequence 0 parts.1)
-      ∙ ap (λ (b : Bool). small.Answers 0 (b && says_written setup.plan 0 response.blocks)) done)
+      ap (λ (b : Bool). cond b (small.Answers response.header.sequence (reply_of response)) small.Nothing) parts.0
+      ∙ ap (λ (n : ℕ). small.Answers n (reply_of response)) (eqb-true response.header.sequence 0 parts.1)
 
-  -- what is no positive response to the first call tells nothing
-  unanswered : (Clear : Type 0) (heard : controller.Heard) → (said_to setup heard ≡ small.Answers 0 true → ⊥) → TellsSo Clear setup heard
-  unanswered Clear (controller.Responds response) other = λ is done. absurd (other (said_positive response is done))
+  -- what is no response to the first call tells nothing
+  unanswered : (Clear : Type 0) (heard : controller.Heard) → ((reply : Reply) → said_to setup heard ≡ small.Answers 0 reply → ⊥) → TellsSo Clear setup heard
+  unanswered Clear (controller.Responds response) other = λ is done. absurd (other (reply_of response) (said_answer response is))
   unanswered Clear another other = tt
 
   tells_on : (Clear Next : Type 0) → (Clear → Next) → (heard : controller.Heard) → TellsSo Clear setup heard → TellsSo Next setup heard
@@ -80,33 +80,33 @@ module _ (setup : Setup) where
 
 -- ---- the frames of a step of the device
 
-nothing_answers : small.Nothing ≡ small.Answers 0 true → ⊥
-nothing_answers e = absurd cc
+nothing_answers : (reply : Reply) → small.Nothing ≡ small.Answers 0 reply → ⊥
+nothing_answers reply e = absurd cc
 
-readies_answers : small.Readies ≡ small.Answers 0 true → ⊥
-readies_answers e = absurd cc
+readies_answers : (reply : Reply) → small.Readies ≡ small.Answers 0 reply → ⊥
+readies_answers reply e = absurd cc
 
-number_answers : (sequence : ℕ) (positive : Bool) → small.Answers sequence positive ≡ small.Answers 0 true → sequence ≡ 0
-number_answers sequence positive e = cc
+number_answers : (sequence : ℕ) (reply other : Reply) → small.Answers sequence reply ≡ small.Answers 0 other → sequence ≡ 0
+number_answers sequence reply other e = cc
 
 module _ (rules : Rules TakenRecord Request) (heard : ToDevice) (before after : small.Device TakenRecord Request) (frames : List (List ℕ)) (P : List ℕ → Type 0)
-    (dull : (frame : List ℕ) → (rules.to_controller frame ≡ small.Answers 0 true → ⊥) → P frame)
+    (dull : (frame : List ℕ) → ((reply : Reply) → rules.to_controller frame ≡ small.Answers 0 reply → ⊥) → P frame)
     (again : (kept : small.Kept) → before.kept ≡ Some kept → P kept.frame) where
   -- a response to a later call
-  later_dull : (frame : List ℕ) (sequence : ℕ) (positive : Bool) → 0 < sequence → SaysAtMost rules (small.Answers sequence positive) frame → P frame
-  later_dull frame sequence positive past says = dull frame (λ e. by_saying e says)
+  later_dull : (frame : List ℕ) (sequence : ℕ) (reply : Reply) → 0 < sequence → SaysAtMost rules (small.Answers sequence reply) frame → P frame
+  later_dull frame sequence reply past says = dull frame (λ other e. by_saying other e says)
     where
-      by_saying : rules.to_controller frame ≡ small.Answers 0 true → SaysAtMost rules (small.Answers sequence positive) frame → ⊥
-      by_saying e (inl none) = nothing_answers (sym none ∙ e)
-      by_saying e (inr same) = let zero_is = number_answers sequence positive (sym same ∙ e) in absurd (omega (arith, zero_is, past))
+      by_saying : (other : Reply) → rules.to_controller frame ≡ small.Answers 0 other → SaysAtMost rules (small.Answers sequence reply) frame → ⊥
+      by_saying other e (inl none) = nothing_answers other (sym none ∙ e)
+      by_saying other e (inr same) = let zero_is = number_answers sequence reply other (sym same ∙ e) in absurd (omega (arith, zero_is, past))
 
   one_dull : (frame : List ℕ) → IsDull rules frame ⊎ IsReady rules after frame → P frame
-  one_dull frame (inl is) = dull frame (λ e. nothing_answers (sym is.1 ∙ e))
-  one_dull frame (inr is) = dull frame (λ e. by_saying e is.to_controller)
+  one_dull frame (inl is) = dull frame (λ reply e. nothing_answers reply (sym is.1 ∙ e))
+  one_dull frame (inr is) = dull frame (λ reply e. by_saying reply e is.to_controller)
     where
-      by_saying : rules.to_controller frame ≡ small.Answers 0 true → SaysAtMost rules small.Readies frame → ⊥
-      by_saying e (inl none) = nothing_answers (sym none ∙ e)
-      by_saying e (inr same) = readies_answers (sym same ∙ e)
+      by_saying : (reply : Reply) → rules.to_controller frame ≡ small.Answers 0 reply → SaysAtMost rules small.Readies frame → ⊥
+      by_saying reply e (inl none) = nothing_answers reply (sym none ∙ e)
+      by_saying reply e (inr same) = readies_answers reply (sym same ∙ e)
 
   each_dull : (those : List (List ℕ)) → AllByRecursion (λ frame. IsDull rules frame ⊎ IsReady rules after frame) those → AllByRecursion P those
   each_dull those all = each_on (λ frame. IsDull rules frame ⊎ IsReady rules after frame) P those one_dull all
@@ -122,14 +122,14 @@ module _ (rules : Rules TakenRecord Request) (heard : ToDevice) (before after : 
       by_kept sequence ask answered is None e = first e sequence ask answered is
       by_kept sequence ask answered is (Some kept) e =
           let new : kept.sequence < sequence = subst (λ (o : Option small.Kept). IsNew sequence o) e answered.new in
-          later_dull answered.frame sequence answered.positive (omega (arith, new)) answered.to_controller
+          later_dull answered.frame sequence answered.reply (omega (arith, new)) answered.to_controller
 
-      reply_dull : (sequence : ℕ) (positive : Bool) (frame : List ℕ) → before.asked ≡ Some sequence → IsNew sequence before.kept
-          → SaysAtMost rules (small.Answers sequence positive) frame → (o : Option small.Kept) → before.kept ≡ o → P frame
-      reply_dull sequence positive frame asked fresh says None e = absurd (none_some sequence before.asked (unasked e) asked)
-      reply_dull sequence positive frame asked fresh says (Some kept) e =
+      reply_dull : (sequence : ℕ) (reply : Reply) (frame : List ℕ) → before.asked ≡ Some sequence → IsNew sequence before.kept
+          → SaysAtMost rules (small.Answers sequence reply) frame → (o : Option small.Kept) → before.kept ≡ o → P frame
+      reply_dull sequence reply frame asked fresh says None e = absurd (none_some sequence before.asked (unasked e) asked)
+      reply_dull sequence reply frame asked fresh says (Some kept) e =
           let new : kept.sequence < sequence = subst (λ (o : Option small.Kept). IsNew sequence o) e fresh in
-          later_dull frame sequence positive (omega (arith, new)) says
+          later_dull frame sequence reply (omega (arith, new)) says
 
       by_heard : (h : ToDevice) → heard ≡ h → DeviceSteps rules h before after frames → AllByRecursion P frames
       by_heard (small.Call sequence ask) is (inl answered) =
@@ -144,7 +144,7 @@ module _ (rules : Rules TakenRecord Request) (heard : ToDevice) (before after : 
       by_heard small.Idle is (inr replies) =
           subst (λ (fs : List (List ℕ)). AllByRecursion P fs) (sym replies.sent)
           (each_behind P replies.others (replies.frame ∷ []) (each_dull replies.others replies.dull)
-          (reply_dull replies.sequence replies.positive replies.frame replies.asked replies.new replies.to_controller before.kept refl, tt))
+          (reply_dull replies.sequence replies.reply replies.frame replies.asked replies.new replies.to_controller before.kept refl, tt))
 
   -- the response that is stored then
   kept_so : AllByRecursion P frames → DeviceSteps rules heard before after frames → (kept : small.Kept) → after.kept ≡ Some kept → P kept.frame
@@ -288,9 +288,18 @@ module _ {F : Type 0} (so : DeviceSo) (hears : HearsSo) (blocks_so : BlocksSo) {
       abbrev Clear : Type 0
       Clear = IsClear setup modules
 
-      written_zero : (sequence : ℕ) (octets : List ℕ) → sequence ≡ 0 → written_by (is_planned setup sequence octets) sequence ≡ small.Call sequence small.Accesses
+      written_zero : (sequence : ℕ) (octets : List ℕ) → sequence ≡ 0
+          → written_by (is_planned setup sequence octets) sequence (number_in octets) ≡ small.Call sequence small.Accesses
       written_zero sequence octets zero_is =
-          ap (λ (n : ℕ). written_by (is_planned setup n octets) n) zero_is ∙ ap (λ (n : ℕ). small.Call n small.Accesses) (sym zero_is)
+          ap (λ (b : Bool). written_by b sequence (number_in octets))
+          (none_earlier (nat_lt (number_in octets) (write_count setup.plan)) (pointwise nat_eq octets (writing_blocks setup (number_in octets)))
+          (nat_lt (number_in octets) sequence) (λ e. let below = ltb-true (number_in octets) sequence e in absurd (omega (arith, below, zero_is))))
+        where
+          none_earlier : (a b c : Bool) → (c ≡ true → ⊥) → (a && (b && c)) ≡ false
+          none_earlier true true true never = absurd (never refl)
+          none_earlier true true false never = refl
+          none_earlier true false c never = refl
+          none_earlier false b c never = refl
 
       -- the blocks of a response to the first call, by its outcome and its operation
       outcome_tells : (caller : Caller) (sequence : ℕ) (octets : List ℕ) (outcome : Result (List ℕ) CallFault) (which : Operation) (link : Option RelationState) → sequence ≡ 0
@@ -375,7 +384,7 @@ module _ {F : Type 0} (so : DeviceSo) (hears : HearsSo) (blocks_so : BlocksSo) {
       on_frame : (frame : List ℕ) → TellsIn (IsClearAt setup live at) setup frame → P frame
       on_frame frame tells = tells_on setup (IsClearAt setup live at) (IsClearAt setup next later) device_clear (heard_by setup.plan.controller frame) tells
 
-      dull : (frame : List ℕ) → (rules.to_controller frame ≡ small.Answers 0 true → ⊥) → P frame
+      dull : (frame : List ℕ) → ((reply : Reply) → rules.to_controller frame ≡ small.Answers 0 reply → ⊥) → P frame
       dull frame other = unanswered setup (IsClearAt setup next later) (heard_by setup.plan.controller frame) other
 
       again : (kept : small.Kept) → kept_at setup live ≡ Some kept → P kept.frame
@@ -412,7 +421,7 @@ module _ {F : Type 0} (so : DeviceSo) (hears : HearsSo) (blocks_so : BlocksSo) {
       each_said : (those : List said.Sent) → AllByRecursion (IsSaidAs setup station) those → AllByRecursion (TellsIn (IsClearAt setup live at) setup) (map (said.bytes_of setup) those)
       each_said [] all = tt
       each_said (message ∷ those) all = (
-        unanswered setup (IsClearAt setup live at) (heard_by setup.plan.controller (said.bytes_of setup message)) (λ e. nothing_answers (sym all.0.0 ∙ e)),
+        unanswered setup (IsClearAt setup live at) (heard_by setup.plan.controller (said.bytes_of setup message)) (λ reply e. nothing_answers reply (sym all.0.0 ∙ e)),
         each_said those all.1,
       )
 
