@@ -436,10 +436,7 @@ module _ (so : CallsSo) where
       goes_held : Goes c.setup.plan heard c.live turn → Held after station live (sent ++ frames)
       goes_held goes = by_sent (sent_waits (IsSaidAs c.setup station) turn.live turn.sent goes.1 meant)
         where
-          abbrev Tied : Type 0
-          Tied = IsTied c station held.last
-
-          leads : Tied → LeadsTo now
+          leads : IsTied c station held.last → LeadsTo now
           leads (inl none) frame is_last = absurd (none_some frame (sym none ∙ is_last))
           leads (inr tied) frame is_last = by_goes goes.0
             where
@@ -448,7 +445,7 @@ module _ (so : CallsSo) where
               by_goes (inl same) = call_same tied same frame is_last
               by_goes (inr over) = inr (over_settled tied frame is_last over)
 
-          by_plain : AllByRecursion IsPlain turn.sent → Tied → (present_of turn.live ≡ present_of c.live) ⊎ IsOver c.setup.plan heard (present_of c.live)
+          by_plain : AllByRecursion IsPlain turn.sent → IsTied c station held.last → (present_of turn.live ≡ present_of c.live) ⊎ IsOver c.setup.plan heard (present_of c.live)
               → Held after station live (sent ++ frames)
           by_plain plain (inl none) same = with_last None (unsent none) (plain_says None plain) (λ e. inl refl)
           by_plain plain (inr tied) (inl same) =

@@ -190,10 +190,10 @@ pub step_number : (plan : Parts) (phase : State) (calls : ℕ) (asked : Option A
     → (sequence_of plan request < write_count plan + 2 + calls) × (calls < 65536)
 step_number plan phase calls asked request step counted is going = by_phase phase step counted going
   where
-    abbrev IsBelow : Asking → Type 0
+    IsBelow : Asking → Type 0
     IsBelow r = (sequence_of plan r < write_count plan + 2 + calls) × (calls < 65536)
 
-    abbrev AreCounted : Type 0
+    AreCounted : Type 0
     AreCounted = (calls ≡ tries_in asked) × (calls < 65536)
 
     below : (other : Asking) → asked ≡ Some other → (calls ≡ tries_in (Some other) → sequence_of plan other < write_count plan + 2 + calls) → AreCounted
