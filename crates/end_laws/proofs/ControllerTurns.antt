@@ -695,8 +695,6 @@ module _ (setup : Setup) where
     release_in came_so (inl answered) = (answered.sequence, answered.stood)
     release_in came_so (inr refused) = (refused.sequence, refused.stood)
 
-    kind_goes : (kind : Kind) → IsKind setup live came kind → GoesOn setup.plan heard live (turn_by setup live kind)
-
     -- the Write after this one, because all its records were accepted, or although one was refused
     writes_on : (after : Live) (number : ℕ) (tries : Option ℕ) (response : Response) → live.asked ≡ Some (write_after number tries)
         → said_of came ≡ said_to setup (Responds response) → is_answer setup (write_after number tries) response.header ≡ true
