@@ -44,7 +44,7 @@ take_few zero (x ∷ xs) = omega arith
 take_few (suc n) [] = omega arith
 take_few (suc n) (x ∷ xs) = omega (arith, take_few n xs)
 
--- of a list that is not empty some are taken
+-- a part of a list that is not empty is not empty
 pub take_some : {A : Type 0} (n : ℕ) (xs : List A) → 0 < n → 0 < length xs → 0 < length (take n xs)
 take_some zero xs none some = absurd (omega (arith, none))
 take_some (suc n) [] none some = absurd (omega (arith, some))

@@ -271,7 +271,7 @@ module _ (setup : Setup) where
   try_of Waiting asked request next is stands e = absurd (none_stands request (sym is ∙ stands))
   try_of Exchanging asked request next is stands e = absurd (none_stands request (sym is ∙ stands))
 
-  -- a call is tried only so many times
+  -- the number of tries has a bound
   few_tries : (status : Status) (tries : ℕ) → is_tried setup.plan status tries ≡ true → tries < 65535
   few_tries status tries again =
       let parts = and_parts setup.plan.persistent_start (is_busy status && nat_lt tries 65535) again in

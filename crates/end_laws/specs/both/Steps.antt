@@ -165,6 +165,7 @@ module _ {T Q : Type 0} where
   ComesBy rules true blocks ask before after = Succeeds rules blocks ask before after
   ComesBy rules false blocks ask before after = after ≡ before
 
+  -- the same, by what the response says
   abbrev pub Comes : Rules T Q → Reply → Ask → Option (RelationState T Q) → Option (RelationState T Q) → Type 0
   Comes rules reply ask before after = ComesBy rules reply.done reply.blocks ask before after
 

@@ -91,10 +91,12 @@ abbrev pub number_of_write : Option IodWriteReq → ℕ
 number_of_write (Some write) = write.header.seq_number - 1
 number_of_write None = 0
 
+-- the same of the first block as it is read
 abbrev pub number_by : Result (Block × List ℕ) BlockFault → ℕ
 number_by (Ok read) = number_of_write (in_iod_write_req read.0)
 number_by (Err fault) = 0
 
+-- the same of the octets of its blocks
 abbrev pub number_in : List ℕ → ℕ
 number_in blocks = number_by (block_of blocks)
 
