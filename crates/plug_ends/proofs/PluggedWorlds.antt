@@ -49,7 +49,7 @@ use Rattle.plug_ends.proofs.CallsHeard.{IsFineAt, fine_from, fine_unrefused}
 use Rattle.plug_ends.proofs.CallsRuns.{all_at, all_both, all_map, heard_said, kept_for, number_said, plain_said}
 use Rattle.plug_ends.proofs.CallsTurns.{IsAsked, IsUnrefused, none_some, number_in, present_by, present_of, requested_is, some_same, plugged_is, waiting_is}
 use Rattle.plug_ends.proofs.ToldRuns.{HeardWith}
-use Rattle.plug_ends.proofs.PluggedNumbers.{IsAccessMade, IsPlugMade, IsSameOr, Numbers}
+use Rattle.plug_ends.proofs.PluggedNumbers.{Counts, IsAccessMade, IsPlugMade, IsSameOr, IsTryMade, Numbers}
 
 -- ---- moves
 
