@@ -195,7 +195,7 @@ module _ (old : Controlling) where
     calls = λ caller call. goes_stays _ (came_goes old.setup old.live (Hears (Calls caller call)));
     alarms = λ source under header notice. goes_stays _ (came_goes old.setup old.live (Hears (Alarms source under header notice)));
   }) old.setup.plan.controller (frame_of frame.items) (λ meaning id body found content own cyclic.
-      came_stays meaning.source id body _ (λ taken.
+      came_stays meaning.source id body (turned old.setup old.live (Comes meaning.source id body)) (λ taken.
       none (acceptable old.setup.plan.controller.mac.octets old.live.cyclic frame.items meaning.source id body meaning (read_is_there frame.items meaning id body found content) refl
       (octets_same meaning.destination.octets old.setup.plan.controller.mac.octets own) cyclic taken)) (came_goes old.setup old.live (Hears (Comes meaning.source id body))))
   leaves_in Tick none = goes_stays _ (came_goes old.setup old.live Passes)

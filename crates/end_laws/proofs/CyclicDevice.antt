@@ -227,8 +227,7 @@ module _ {F : Type 0} {S : ℕ} (as_flash : Flash F S) (old new : State F) (even
   -- An acceptable frame.
   pub record AcceptsAt (frame : List ℕ) : Type 0 where
     pub live : new.live ≡ linked (accepted_at frame link) old.live
-    pub said : said ≡ Done
-    pub sent : sent ≡ []
+    pub silent : sent ≡ []
 
   pub accepts_at : (frame : ArrayVec ℕ) → event ≡ Frame frame → IsAcceptable (consumer_at old.station link) frame.items → AcceptsAt frame.items
   unfolding heard_of
@@ -248,8 +247,7 @@ module _ {F : Type 0} {S : ℕ} (as_flash : Flash F S) (old new : State F) (even
       record {
         live = steps.live ∙ (ap (λ (s : Stepped). s.live) step
             ∙ ap (λ (c : CyclicEnd). linked (record link { flow = record link.flow { cyclic = c } }) old.live) accepted.behind);
-        said = steps.note ∙ ap (λ (s : Stepped). s.note) step;
-        sent = steps.frames ∙ ap (λ (s : Stepped). s.frames) step;
+        silent = steps.frames ∙ ap (λ (s : Stepped). s.frames) step;
       }
 
   module _ (next : RelationState) (becomes : new.live.rest.link ≡ Some next) where

@@ -145,10 +145,17 @@ module _ (data_read : DataIsRead) (station : Station) (before : Live) (link : Re
   unit_fine None =
       let address = before.values.running.suite.address in
       let after : Option RelationState = Some (unit_later link) in
-      fine_both _ _ (fine_due _ (alarms_of (flow_of after)) (alarms_fine (flow_of after)))
-      (fine_both _ _ (fine_due _ (low_alarms_of (flow_of after)) (low_alarms_fine (flow_of after)))
-      (fine_both _ _ (fine_due _ (ready_calls address after) (ready_fine address after))
-      (fine_both _ _ (fine_due _ (plug_calls address after) (plug_fine address after)) (fine_due _ _ inputs_fine))))
+      let due = due_by link None in
+      let cyclic = where_due due.is_cyclic (inputs_of (counter_of (units_after 1 before.rest.units)) (Some (flow_later link.flow))) in
+      let plugs = where_due due.is_plug_ready (plug_calls address after) in
+      let readies = where_due due.is_ready (ready_calls address after) in
+      let lows = where_due due.is_low (low_alarms_of (flow_of after)) in
+      fine_both (where_due due.is_alarm (alarms_of (flow_of after))) (lows ++ (readies ++ (plugs ++ cyclic)))
+      (fine_due due.is_alarm (alarms_of (flow_of after)) (alarms_fine (flow_of after)))
+      (fine_both lows (readies ++ (plugs ++ cyclic)) (fine_due due.is_low (low_alarms_of (flow_of after)) (low_alarms_fine (flow_of after)))
+      (fine_both readies (plugs ++ cyclic) (fine_due due.is_ready (ready_calls address after) (ready_fine address after))
+      (fine_both plugs cyclic (fine_due due.is_plug_ready (plug_calls address after) (plug_fine address after))
+      (fine_due due.is_cyclic (inputs_of (counter_of (units_after 1 before.rest.units)) (Some (flow_later link.flow))) inputs_fine))))
 
   frames_provided : (messages : List Sent) → AreFine messages → AreSendable identity messages → AreProvided (provider_at station link) (cycle_at before) (map (bytes_of identity) messages)
   frames_provided [] fine can = tt

@@ -6,7 +6,7 @@ pub returns-clause-accepts : goal.returns-clause-accepts
 returns-clause-accepts g c = λ link frame exists is able. (accepts_at _ _ _ c.args.event.now _ _ c.step.ensures.steps link exists frame is able).live
 
 pub returns-clause-silent : goal.returns-clause-silent
-returns-clause-silent g c = λ link frame exists is able. (accepts_at _ _ _ c.args.event.now _ _ c.step.ensures.steps link exists frame is able).sent
+returns-clause-silent g c = λ link frame exists is able. (accepts_at _ _ _ c.args.event.now _ _ c.step.ensures.steps link exists frame is able).silent
 
 pub returns-clause-leaves : goal.returns-clause-leaves
 returns-clause-leaves g c = λ link next exists becomes none. leaves_at _ _ _ c.args.event.now _ _ c.step.ensures.steps link exists next becomes none
