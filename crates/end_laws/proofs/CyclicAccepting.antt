@@ -1,7 +1,7 @@
 -- The frames that an end accepts are those of the independent words.
-use Rattle.std.proofs.Common.{◌≡◌, inl, inr, ltb, ◌+◌, ◌≤◌, ◌<◌, ◌==◌, ◌&&◌, ℕ, Bool, true, false, cond, nat_eq, nat_le, List, [], ◌∷◌, length, take, drop, get_or, Option, Some, None, Result, Ok, Err, refl, sym, ap, subst, ◌∙◌, arith}
+use Rattle.std.proofs.Common.{◌≡◌, inl, inr, ltb, ◌+◌, ◌≤◌, ◌<◌, ◌==◌, ◌&&◌, ℕ, Bool, true, false, cond, nat_eq, List, [], ◌∷◌, length, take, drop, get_or, Option, Some, None, Result, Ok, Err, refl, sym, ap, subst, ◌∙◌, arith}
 use Rattle.std.proofs.lemmas.Bool.{and_from, and_parts, cases_lt, eq-eqb, eqb-true, le-ltb, ltb-false}
-use Rattle.std.proofs.lemmas.List.{drop-drop, get_or-drop, length-drop}
+use Rattle.std.proofs.lemmas.List.{get_or-drop, length-drop}
 use Rattle.std.specs.Cmp.Lexicographic.{pointwise}
 use Rattle.byteorder.specs.Endian.{big_number}
 use Rattle.pn_values.specs.declared.mac.Mac.{Mac}
@@ -9,14 +9,13 @@ use Rattle.frame_codec.specs.FrameId.{is_cyclic}
 use Rattle.frame_codec.specs.Meaning.{Meaning}
 use Rattle.cyclic_data.specs.declared.tail.CyclicTail.{CyclicTail}
 use Rattle.cyclic_data.specs.declared.tail.ShortFrame.{ShortFrame}
-use Rattle.cyclic_data.specs.declared.exchange.received.Received.{Received}
-use Rattle.cyclic_data.specs.declared.exchange.received.Received.TheVariants.{Foreign, Short, Stale, Taken}
+use Rattle.cyclic_data.specs.declared.exchange.received.Received.TheVariants.{Foreign, Stale, Taken}
 use Rattle.cyclic_data.specs.Tail.{cyclic_frame, cyclic_of, cyclic_tail, short}
 use Rattle.cyclic_data.specs.Image.{with_frame}
 use Rattle.cyclic_data.specs.Timing.{Hearing, is_newer as machine_newer, is_taken}
 use Rattle.cyclic_data.specs.exchange.Cyclic.{Cyclic}
 use Rattle.cyclic_data.specs.exchange.Received.{behind_frame, behind_read, is_new, is_of_partner, received_as, received_in, taken_from}
-use Rattle.field_words.specs.Cyclic.{Consumer, IsAcceptable, IsCyclic, counter_in, data_in, frame_id_in, is_cyclic_id, is_newer, status_in, transfer_in}
+use Rattle.field_words.specs.Cyclic.{IsAcceptable, counter_in, data_in, frame_id_in, is_cyclic_id, is_newer, status_in, transfer_in}
 use Rattle.field_words.specs.Octets.{has_bit, octet_at, part_at, type_place, word_at}
 use Rattle.end_laws.specs.cyclic.Ends.{accepted_by, consumer_of}
 use Rattle.end_laws.proofs.CyclicPlaces.{IsRead, two_read, word_dropped}
@@ -49,18 +48,25 @@ octet_dropped : (size place : ℕ) (octets : List ℕ) → octet_at place (drop 
 octet_dropped size place octets = get_or-drop size octets place 0
 
 tail_read : (size : ℕ) (body : List ℕ) → size + 4 ≤ length body
-    → cyclic_of size body ≡ Ok (take size body, record {
-      counter = big_number 2 (drop size body);
-      data_status = record { 0 = big_number 1 (drop 2 (drop size body)) };
-      transfer_status = big_number 1 (drop 1 (drop 2 (drop size body)));
-    })
+    → cyclic_of size body ≡ Ok (
+      take size body,
+      record {
+        counter = big_number 2 (drop size body);
+        data_status = record { 0 = big_number 1 (drop 2 (drop size body)) };
+        transfer_status = big_number 1 (drop 1 (drop 2 (drop size body)));
+      },
+    )
 unfolding cyclic_frame cyclic_tail
 tail_read size body long =
     let a = length-drop size body in
     let b = length-drop 2 (drop size body) in
     let c = length-drop 1 (drop 2 (drop size body)) in
-    rw (le-ltb (length body) size (omega (arith, long)), le-ltb (length (drop size body)) 2 (omega (arith, long, a)),
-    le-ltb (length (drop 2 (drop size body))) 1 (omega (arith, long, a, b)), le-ltb (length (drop 1 (drop 2 (drop size body)))) 1 (omega (arith, long, a, b, c))) refl
+    rw (
+      le-ltb (length body) size (omega (arith, long)),
+      le-ltb (length (drop size body)) 2 (omega (arith, long, a)),
+      le-ltb (length (drop 2 (drop size body))) 1 (omega (arith, long, a, b)),
+      le-ltb (length (drop 1 (drop 2 (drop size body)))) 1 (omega (arith, long, a, b, c)),
+    ) refl
 
 pub tail_there : (size : ℕ) (body : List ℕ) → size + 4 ≤ length body → cyclic_of size body ≡ Ok (take size body, tail_at size body)
 tail_there size body long =

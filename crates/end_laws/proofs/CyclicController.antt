@@ -1,8 +1,6 @@
 -- A controller accepts the cyclic frames that are acceptable, and no others, and what it sends is of the independent words.
-use Rattle.std.proofs.Common.{◌≡◌, ◌⊎◌, inl, inr, ap, ◌+◌, ◌%◌, ◌==◌, ◌&&◌, ◌≤◌, ◌<◌, ◌++◌, ℕ, Bool, true, false, cond, nat_eq, List, [], ◌∷◌, drop, map, take, Option, Some, None, Result, Ok, Err, refl, sym, subst, ◌∙◌, arith}
+use Rattle.std.proofs.Common.{◌≡◌, ◌⊎◌, inl, inr, ap, ◌+◌, ◌==◌, ℕ, Bool, true, false, nat_eq, List, [], drop, take, Option, Some, None, Result, Ok, Err, refl, subst, ◌∙◌, arith}
 use Rattle.std.specs.Prelude.{if◌then◌else◌}
-use Rattle.std.specs.List.{AllByRecursion}
-use Rattle.std.proofs.lemmas.Bool.{and_from, cases_Bool, eq-eqb}
 use Rattle.std.specs.Cmp.Lexicographic.{pointwise}
 use Rattle.arrayvec.specs.ArrayVec.{ArrayVec}
 use Rattle.pn_values.specs.declared.mac.Mac.{Mac}
@@ -29,17 +27,17 @@ use Rattle.cyclic_data.specs.declared.tail.ShortFrame.{ShortFrame}
 use Rattle.cyclic_data.specs.declared.exchange.received.Received.TheVariants.{Foreign, Stale, Taken}
 use Rattle.cyclic_data.specs.Tail.{cyclic_of}
 use Rattle.cyclic_data.specs.exchange.Cyclic.{Cyclic as CyclicEnd}
-use Rattle.cyclic_data.specs.exchange.Received.{behind_frame, is_new, is_of_partner, received_as, received_in}
+use Rattle.cyclic_data.specs.exchange.Received.{behind_frame, received_as, received_in}
 use Rattle.plans.specs.declared.parts.Controller.{Controller}
 use Rattle.controller_messages.specs.Heard.{Answers, Calls, Cyclic as Comes, Alarms, Heard, Nothing, Refuses, Responds, heard_alarm, heard_answer, heard_body, heard_call, heard_content, heard_first, heard_of, heard_read, heard_real_time, heard_refusal, heard_response, is_to}
 use Rattle.controller_core.specs.declared.stored.event.Event.{Event}
 use Rattle.controller_core.specs.declared.stored.event.Event.TheVariants.{Frame, Tick, Give, Status as Rate, Read, Write, Stop}
-use Rattle.controller_core.specs.stored.State.{Controlling, Live, with_live}
-use Rattle.controller_core.specs.Machine.{Stepped, Turn, stays, step_of, stepped, turn_of, turned}
+use Rattle.controller_core.specs.stored.State.{Controlling}
+use Rattle.controller_core.specs.Machine.{Turn, stays, step_of, stepped, turned}
 use Rattle.diagnosis.specs.reports.Message.{ToController, alarm_of}
 use Rattle.field_words.specs.Cyclic.{IsAcceptable, IsCyclic, frame_id_in}
 use Rattle.field_words.specs.Octets.{part_at, type_place}
-use Rattle.end_laws.specs.cyclic.Ends.{accepted_by, got_at}
+use Rattle.end_laws.specs.cyclic.Ends.{got_at}
 use Rattle.end_laws.specs.cyclic.Controller.{IsNoneFor, accepted_in, consumer_in}
 use Rattle.end_laws.specs.turns.Turns.{AsksRead, AsksWrite, Gets, GetsStatus, Halts, Hears, Passes}
 use Rattle.end_laws.proofs.HearingChoices.{holds_if}
@@ -61,10 +59,10 @@ controller_hears controller frame to cyclic opened =
     ∙ (ap (λ (b : Bool). if b then heard_real_time source id body else Nothing)
     (subst (λ (l : List ℕ). pointwise nat_eq (take 6 frame) l ≡ true) to (same_octets (take 6 frame)))
     ∙ ap (λ (b : Bool). if b then Comes source id body else
-        (if is_alarm id then heard_alarm source id (alarm_of body)
-        else if id == 0xFEFD then heard_answer source (answer_of id body)
-        else if id == 0xFEFF then heard_answer source (answer_of id body)
-        else Nothing)) cyclic.id)
+    (if is_alarm id then heard_alarm source id (alarm_of body)
+    else if id == 0xFEFD then heard_answer source (answer_of id body)
+    else if id == 0xFEFF then heard_answer source (answer_of id body)
+    else Nothing)) cyclic.id)
 
 -- What holds of everything that a controller hears of frames, but for cyclic frames.
 record Others (Holds : Heard → Type 0) : Type 0 where

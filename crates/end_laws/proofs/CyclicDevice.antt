@@ -1,5 +1,5 @@
 -- A device accepts the cyclic frames that are acceptable, and no others.
-use Rattle.std.proofs.Common.{◌≡◌, ◌≢◌, ap, ◌+◌, ◌==◌, ◌&&◌, ◌||◌, ℕ, Bool, true, false, cond, min, nat_eq, List, [], drop, take, Option, Some, None, Result, Ok, Err, refl, sym, subst, ◌∙◌, arith}
+use Rattle.std.proofs.Common.{◌≡◌, ap, ◌+◌, ◌==◌, ◌&&◌, ◌||◌, ℕ, Bool, true, false, nat_eq, List, [], drop, take, Option, Some, Result, Ok, Err, refl, sym, subst, ◌∙◌, arith}
 use Rattle.std.specs.Prelude.{if◌then◌else◌}
 use Rattle.std.proofs.lemmas.Bool.{and_parts}
 use Rattle.std.specs.Cmp.Lexicographic.{pointwise}
@@ -47,7 +47,7 @@ use Rattle.device_core.specs.Steps.{Steps}
 use Rattle.field_words.specs.Cyclic.{IsAcceptable, IsCyclic, frame_id_in}
 use Rattle.field_words.specs.Octets.{part_at, type_place}
 use Rattle.end_laws.specs.device.Exchange.{IsUnaccepted, is_unit}
-use Rattle.end_laws.specs.cyclic.Ends.{accepted_by, got_at}
+use Rattle.end_laws.specs.cyclic.Ends.{got_at}
 use Rattle.end_laws.specs.cyclic.Device.{IsExchanging, IsNoAcceptable, accepted_at, consumer_at, held_then, linked, running_after}
 use Rattle.end_laws.proofs.HearingChoices.{cyclic_chosen, holds_if, no_alarm, no_get_set, no_identify}
 use Rattle.end_laws.proofs.DeviceExchange.{Follows, hearing_of, running_then, step_does, waiting_on}

@@ -1,5 +1,5 @@
 -- The frames of inputs that a device sends with a unit of time are those of the independent words.
-use Rattle.std.proofs.Common.{◌≡◌, ap, ◌+◌, ◌%◌, ◌^◌, ◌≤◌, ◌<◌, ◌++◌, ℕ, Bool, true, false, cond, List, [], ◌∷◌, length, map, Option, Some, None, option_map, refl, sym, subst, ◌∙◌, arith}
+use Rattle.std.proofs.Common.{◌≡◌, ap, ◌+◌, ◌%◌, ◌++◌, ℕ, Bool, true, false, List, [], ◌∷◌, length, map, Option, Some, None, option_map, refl, sym, subst, ◌∙◌, arith}
 use Rattle.std.specs.Prelude.{if◌then◌else◌}
 use Rattle.std.specs.List.{AllByRecursion}
 use Rattle.std.proofs.Math.Pow.{mod-mod-pow}
@@ -11,35 +11,33 @@ use Rattle.record_blocks.specs.declared.alarm_notification.AlarmNotification.{Al
 use Rattle.frame_codec.specs.FrameId.{is_cyclic}
 use Rattle.rpc_core.specs.Cache.{Kept}
 use Rattle.pn_alarms.specs.declared.abort.Abort.{Abort}
-use Rattle.pn_alarms.specs.declared.pdu.Header.{Header}
 use Rattle.pn_alarms.specs.declared.pdu.PduType.{PduType}
 use Rattle.pn_alarms.specs.declared.pdu.PduType.TheVariants as pdu
-use Rattle.pn_alarms.specs.Format.{frame_id_of, pdu_bytes}
-use Rattle.cyclic_data.specs.declared.exchange.route.Route.{Route}
+use Rattle.pn_alarms.specs.Format.{frame_id_of}
 use Rattle.asked_records.specs.declared.question.Question.{Question}
 use Rattle.asked_records.specs.declared.status.Unanswered.TheVariants.{Late}
 use Rattle.asked_records.specs.Questions.{operation_of}
 use Rattle.expected_places.specs.declared.calls.PlugCall.{PlugCall}
 use Rattle.relations.specs.declared.options.DeviceOptions.{DeviceOptions}
 use Rattle.relations.specs.exchange.Flow.{Flow, state_of}
-use Rattle.relations.specs.exchange.Frames.{Inputs, Notifies, Replies, Reports, RepliesLow, body_of}
+use Rattle.relations.specs.exchange.Frames.{Inputs, Notifies, Reports}
 use Rattle.relations.specs.exchange.Diagnosis.{low_header_of}
 use Rattle.relations.specs.exchange.Notices.{header_of}
 use Rattle.relations.specs.exchange.Units.{flow_later}
 use Rattle.relations.specs.Phases.{passing_by, updated}
 use Rattle.relations.specs.Plugging.{ready_for}
 use Rattle.relations.specs.RelationState.{RelationState, flow_of}
-use Rattle.relations.specs.Timers.{due_by, ending_of, is_again, is_plug_again, unit_later}
+use Rattle.relations.specs.Timers.{due_by, ending_of, unit_later}
 use Rattle.device_frames.specs.declared.event.Event.{Event}
 use Rattle.device_frames.specs.declared.event.Event.TheVariants.{Tick}
 use Rattle.device_frames.specs.declared.note.Note.{Note}
 use Rattle.device_frames.specs.Heard.{Heard, Ticks, heard_of}
-use Rattle.device_frames.specs.Relation.{alarms_of, due_frames, farewells_in, frames_in, inputs_of, low_alarms_of, plug_call_in, plug_calls, ready_calls, where_due}
+use Rattle.device_frames.specs.Relation.{alarms_of, due_frames, frames_in, inputs_of, low_alarms_of, plug_call_in, plug_calls, ready_calls, where_due}
 use Rattle.device_frames.specs.Sendable.{AreSendable, IsSendable}
-use Rattle.device_frames.specs.Sent.{Sent, IdentifyAnswer, GetAnswer, SetAnswer, ArpReply, CallAnswer, Again, ReadyCall, PlugReadyCall, Ends, Exchanges, bytes_of}
+use Rattle.device_frames.specs.Sent.{Sent, Exchanges, bytes_of}
 use Rattle.settings_journal.specs.settings_store.Machine.{Outcome}
 use Rattle.device_core.specs.State.{Live, State, Station, counter_of, units_after}
-use Rattle.device_core.specs.Asking.{is_kept, is_new, late_in, late_sent, later_replies, looked_if, question_replies, refused_reply}
+use Rattle.device_core.specs.Asking.{is_kept, is_new, late_in, late_sent, looked_if, question_replies, refused_reply}
 use Rattle.device_core.specs.Handled.{unit_rest, unit_sent}
 use Rattle.device_core.specs.Machine.{Stepped, handled_step, heard_step}
 use Rattle.device_core.specs.Steps.{Steps}
@@ -82,8 +80,11 @@ module _ (data_read : DataIsRead) (station : Station) (before : Live) (link : Re
 
   ready_fine : (address : List ℕ) (after : Option RelationState) → AreFine (ready_calls address after)
   ready_fine address None = tt
-  ready_fine address (Some after) = (λ can cyclic.
-      absurd (datagram_alone _ identity.mac can.destination can.source _ _ _ cyclic), tt)
+  ready_fine address (Some after) = (
+    λ can cyclic.
+        absurd (datagram_alone _ identity.mac can.destination can.source _ _ _ cyclic),
+    tt,
+  )
 
   plug_fine : (address : List ℕ) (after : Option RelationState) → AreFine (plug_calls address after)
   plug_fine address None = tt
@@ -91,8 +92,11 @@ module _ (data_read : DataIsRead) (station : Station) (before : Live) (link : Re
     where
       by_standing : (standing : Option PlugCall) → AreFine (plug_call_in address (option_map (ready_for after) standing))
       by_standing None = tt
-      by_standing (Some call) = (λ can cyclic.
-          absurd (datagram_alone _ identity.mac can.destination can.source _ _ _ cyclic), tt)
+      by_standing (Some call) = (
+        λ can cyclic.
+            absurd (datagram_alone _ identity.mac can.destination can.source _ _ _ cyclic),
+        tt,
+      )
 
   alarms_fine : (flow : Option Flow) → AreFine (alarms_of flow)
   alarms_fine None = tt
@@ -100,8 +104,11 @@ module _ (data_read : DataIsRead) (station : Station) (before : Live) (link : Re
     where
       by_standing : (standing : Option AlarmNotification) → AreFine (frames_in flow.cyclic.route (option_map (Notifies (header_of flow pdu.Data)) standing))
       by_standing None = tt
-      by_standing (Some alarm) = (λ can cyclic.
-          absurd (tagged_alone _ identity.mac can.destination can.source _ (frame_id_of pdu.Data) _ can.content.0 (alarm_apart pdu.Data) cyclic), tt)
+      by_standing (Some alarm) = (
+        λ can cyclic.
+            absurd (tagged_alone _ identity.mac can.destination can.source _ (frame_id_of pdu.Data) _ can.content.0 (alarm_apart pdu.Data) cyclic),
+        tt,
+      )
 
   low_alarms_fine : (flow : Option Flow) → AreFine (low_alarms_of flow)
   low_alarms_fine None = tt
@@ -110,8 +117,11 @@ module _ (data_read : DataIsRead) (station : Station) (before : Live) (link : Re
       by_standing : (standing : Option AlarmNotification)
           → AreFine (frames_in flow.cyclic.route (option_map (Reports flow.low.tag (low_header_of flow pdu.Data)) standing))
       by_standing None = tt
-      by_standing (Some alarm) = (λ can cyclic.
-          absurd (tagged_alone _ identity.mac can.destination can.source _ _ _ can.content.0 refl cyclic), tt)
+      by_standing (Some alarm) = (
+        λ can cyclic.
+            absurd (tagged_alone _ identity.mac can.destination can.source _ _ _ can.content.0 refl cyclic),
+        tt,
+      )
 
   late_fine : (options : DeviceOptions) (address : List ℕ) (found : Option Question) (calls : List Kept) → AreFine (late_sent options address found calls)
   late_fine options address None calls = tt
@@ -123,25 +133,34 @@ module _ (data_read : DataIsRead) (station : Station) (before : Live) (link : Re
       by_address : (zero : Bool) → AreFine (if zero then [] else question_replies (is_kept options (operation_of question.request)) question answer calls)
       by_address true = tt
       by_address false =
-          fine_due (is_new (looked_if (is_kept options (operation_of question.request)) question.header.activity question.header.sequence calls)) (answer ∷ []) (λ can cyclic.
-          absurd (datagram_alone _ identity.mac can.0.destination can.0.source _ _ _ cyclic), tt)
+          fine_due (is_new (looked_if (is_kept options (operation_of question.request)) question.header.activity question.header.sequence calls)) (answer ∷ []) (
+            λ can cyclic.
+                absurd (datagram_alone _ identity.mac can.0.destination can.0.source _ _ _ cyclic),
+            tt,
+          )
 
   -- ---- the unit
 
   inputs_fine : AreFine (inputs_of (counter_of (units_after 1 before.rest.units)) (Some (flow_later link.flow)))
-  inputs_fine = (λ can cyclic.
-      subst (λ (n : ℕ). IsProvided (provider_at station link) n
-      (bytes_of identity (Exchanges link.flow.cyclic.route (Inputs (state_of (flow_later link.flow)) link.flow.cyclic.shown (counter_of (units_after 1 before.rest.units))))))
-      (counter_is before.rest.units)
-      (provided data_read identity.mac link.flow.cyclic.route (state_of (flow_later link.flow)) link.flow.cyclic.shown (counter_of (units_after 1 before.rest.units)) can
-      (mod-lt (units_after 1 before.rest.units) {m = 65536} (omega arith))), tt)
+  inputs_fine = (
+    λ can cyclic.
+        subst (λ (n : ℕ). IsProvided (provider_at station link) n
+        (bytes_of identity (Exchanges link.flow.cyclic.route (Inputs (state_of (flow_later link.flow)) link.flow.cyclic.shown (counter_of (units_after 1 before.rest.units))))))
+        (counter_is before.rest.units)
+        (provided data_read identity.mac link.flow.cyclic.route (state_of (flow_later link.flow)) link.flow.cyclic.shown (counter_of (units_after 1 before.rest.units)) can
+        (mod-lt (units_after 1 before.rest.units) {m = 65536} (omega arith))),
+    tt,
+  )
 
   abbrev sent_by : Option Abort → List Sent
   sent_by ending = due_frames before.values.running.suite.address (counter_of (units_after 1 before.rest.units)) (due_by link ending) (updated (passing_by ending) (Some link))
 
   unit_fine : (ending : Option Abort) → AreFine (sent_by ending)
-  unit_fine (Some because) = (λ can cyclic.
-      absurd (tagged_alone _ identity.mac can.destination can.source _ (frame_id_of pdu.Error) _ can.content.0 (alarm_apart pdu.Error) cyclic), tt)
+  unit_fine (Some because) = (
+    λ can cyclic.
+        absurd (tagged_alone _ identity.mac can.destination can.source _ (frame_id_of pdu.Error) _ can.content.0 (alarm_apart pdu.Error) cyclic),
+    tt,
+  )
   unit_fine None =
       let address = before.values.running.suite.address in
       let after : Option RelationState = Some (unit_later link) in

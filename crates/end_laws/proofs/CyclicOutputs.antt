@@ -1,5 +1,5 @@
 -- The frames of outputs that a controller sends with a unit of time are those of the independent words.
-use Rattle.std.proofs.Common.{◌≡◌, ap, ◌+◌, ◌%◌, ◌≤◌, ◌<◌, ◌++◌, ℕ, Bool, true, false, List, [], ◌∷◌, length, map, Option, Some, None, refl, sym, subst, ◌∙◌, arith}
+use Rattle.std.proofs.Common.{◌≡◌, ◌+◌, ◌%◌, ◌<◌, ◌++◌, ℕ, Bool, true, false, List, [], ◌∷◌, length, map, Option, Some, None, refl, sym, subst, arith}
 use Rattle.std.specs.Prelude.{if◌then◌else◌, is_some}
 use Rattle.std.specs.List.{AllByRecursion}
 use Rattle.std.proofs.Math.Nat.{mod-lt}
@@ -21,7 +21,7 @@ use Rattle.controller_messages.specs.declared.request.Request.{Request}
 use Rattle.controller_messages.specs.declared.request.Request.TheVariants as asks
 use Rattle.controller_messages.specs.declared.setup.Setup.{Setup}
 use Rattle.controller_messages.specs.Access.{Accessing}
-use Rattle.controller_messages.specs.Sent.{Sent, Requests, Accesses, Parametrizes, Agrees, Cycles, Confirms, Replies, Ends, bytes_of, identify_multicast}
+use Rattle.controller_messages.specs.Sent.{Sent, Requests, bytes_of, identify_multicast}
 use Rattle.controller_core.specs.declared.stored.event.Event.TheVariants.{Tick}
 use Rattle.controller_core.specs.declared.stored.state.Cause.{Cause}
 use Rattle.controller_core.specs.declared.stored.state.Cause.TheVariants.{NoProgress}
@@ -29,14 +29,14 @@ use Rattle.controller_core.specs.declared.stored.state.State.{State}
 use Rattle.controller_core.specs.declared.stored.state.State.TheVariants.{Looking, Addressing, Connecting, Writing, Ending, Waiting, Exchanging, Ended}
 use Rattle.controller_core.specs.start_up.Requests.{next_sequence}
 use Rattle.controller_core.specs.stored.State.{Controlling, Live}
-use Rattle.controller_core.specs.Machine.{Turn, acks_in, acks_of, accesses_by, beside_of, brought, due_frames, end_of, exchange_later, flow_later, flowed, gone_on, is_again, is_spent, later, outputs_of, pending_by, pending_of, plugs_by, quit, requests_of, step_of, ticked, where_due}
+use Rattle.controller_core.specs.Machine.{Turn, acks_in, accesses_by, brought, due_frames, end_of, flow_later, flowed, gone_on, is_again, is_spent, later, outputs_of, pending_by, plugs_by, quit, requests_of, step_of, ticked, where_due}
 use Rattle.field_words.specs.Cyclic.{IsCyclic, IsProvided}
 use Rattle.end_laws.specs.turns.Beside.{flow_begun}
 use Rattle.end_laws.specs.cyclic.Controller.{IsSized, cycle_in, provider_in}
 use Rattle.end_laws.specs.cyclic.Ends.{AreProvided}
 use Rattle.end_laws.proofs.HearingGiven.{DataIsRead}
 use Rattle.end_laws.proofs.SendingSizes.{body_few}
-use Rattle.end_laws.proofs.TurnsBeside.{begins, begun_beside, flows, gone_is, unit_begun}
+use Rattle.end_laws.proofs.TurnsBeside.{begun_beside, flows, gone_is, unit_begun}
 use Rattle.end_laws.proofs.CyclicSending.{all_both, datagram_alone, plain_alone, provided, tagged_alone}
 
 multicast_six : length identify_multicast.octets ≡ 6
@@ -103,9 +103,12 @@ module _ (data_read : DataIsRead) (old : Controlling) (sized : IsSized old) wher
 
     acks_fine : (priority : Priority) (ack : Option AlarmAck) → AreFine (acks_in after priority ack)
     acks_fine priority None = tt
-    acks_fine priority (Some ack) = (λ cyclic.
-        absurd (tagged_alone live.cyclic.route.partner setup.plan.controller.mac sized.partner sized.own _ (frame_id_at priority pdu.Data) _ (alarm_small priority pdu.Data)
-        (alarm_apart priority pdu.Data) cyclic), tt)
+    acks_fine priority (Some ack) = (
+      λ cyclic.
+          absurd (tagged_alone live.cyclic.route.partner setup.plan.controller.mac sized.partner sized.own _ (frame_id_at priority pdu.Data) _ (alarm_small priority pdu.Data)
+          (alarm_apart priority pdu.Data) cyclic),
+      tt,
+    )
 
     plugs_fine : (request : Option PlugRequest) → AreFine (plugs_by live.device request)
     plugs_fine None = tt
@@ -120,14 +123,17 @@ module _ (data_read : DataIsRead) (old : Controlling) (sized : IsSized old) wher
     pending_fine None = fine_if (is_some access.plug) _ _ (plugs_fine access.plug) (accesses_fine access.octets access.waiting)
 
     outputs_fine : AreFine (outputs_of after)
-    outputs_fine = (λ cyclic.
-        provided data_read setup.plan.controller.mac live.cyclic.route in_order live.cyclic.shown ((live.units + 1) % 65536)
-        (record {
-          destination = sized.partner;
-          source = sized.own;
-          tag = sized.sent_tag;
-          content = (sized.sent_id, body_few live.cyclic.shown ((live.units + 1) % 65536) sized.few);
-        }) (mod-lt (live.units + 1) {m = 65536} (omega arith)), tt)
+    outputs_fine = (
+      λ cyclic.
+          provided data_read setup.plan.controller.mac live.cyclic.route in_order live.cyclic.shown ((live.units + 1) % 65536)
+          (record {
+            destination = sized.partner;
+            source = sized.own;
+            tag = sized.sent_tag;
+            content = (sized.sent_id, body_few live.cyclic.shown ((live.units + 1) % 65536) sized.few);
+          }) (mod-lt (live.units + 1) {m = 65536} (omega arith)),
+      tt,
+    )
 
     due_fine : (high low request cyclic : Bool) → AreFine (due_frames after high low request cyclic)
     due_fine high low request cyclic =
@@ -137,9 +143,12 @@ module _ (data_read : DataIsRead) (old : Controlling) (sized : IsSized old) wher
 
     flowed_fine : (ending : Option Abort)
         → AreFine (flowed after (due live.alarms.sending) (due live.low_alarms.sending) (is_again live) (brought live) ending).sent
-    flowed_fine (Some reason) = (λ cyclic.
-        absurd (tagged_alone live.cyclic.route.partner setup.plan.controller.mac sized.partner sized.own _ (frame_id_of pdu.Error) _ (alarm_small High pdu.Error)
-        (alarm_apart High pdu.Error) cyclic), tt)
+    flowed_fine (Some reason) = (
+      λ cyclic.
+          absurd (tagged_alone live.cyclic.route.partner setup.plan.controller.mac sized.partner sized.own _ (frame_id_of pdu.Error) _ (alarm_small High pdu.Error)
+          (alarm_apart High pdu.Error) cyclic),
+      tt,
+    )
     flowed_fine None = due_fine _ _ _ _
 
   -- ---- the unit

@@ -1,14 +1,12 @@
 -- A frame of real time, read at fixed places: what the format reads is there, and what is there is read.
-use Rattle.std.proofs.Common.{◌≡◌, ◌+◌, ◌-◌, ◌*◌, ◌≤◌, ◌<◌, ◌==◌, ℕ, Bool, true, false, List, [], ◌∷◌, ◌++◌, length, take, drop, get_or, Option, Some, None, Result, Ok, Err, refl, sym, ap, subst, ◌∙◌, append_assoc, arith}
-use Rattle.std.proofs.lemmas.Bool.{cond-false, cond-true, eqb-true, ltb-false, le-ltb}
-use Rattle.std.proofs.lemmas.Bool.Decides.{nat_tests}
+use Rattle.std.proofs.Common.{◌≡◌, ◌+◌, ◌*◌, ◌≤◌, ◌<◌, ◌==◌, ℕ, Bool, true, false, List, [], ◌∷◌, ◌++◌, length, take, drop, get_or, Option, Some, None, Ok, refl, sym, ap, subst, ◌∙◌, append_assoc, arith}
+use Rattle.std.proofs.lemmas.Bool.{cond-false, cond-true, eqb-true}
 use Rattle.std.proofs.lemmas.List.{drop-drop, drop_at, get_or-drop, length-append, length-drop, length-take-le, take-append-drop, take_at}
 use Rattle.byteorder.specs.Endian.{big_bytes, big_number}
 use Rattle.byteorder.specs.Numbers.{big_number-reads_back, length-bytes_high_first}
 use Rattle.pn_values.specs.declared.mac.Mac.{Mac}
 use Rattle.wire.specs.Formats.{number as field, when, ◌⨾◌}
 use Rattle.wire.specs.Whole.{pick, refused}
-use Rattle.frame_codec.specs.declared.arp.Arp.{Arp}
 use Rattle.frame_codec.specs.declared.fault.FrameFault.TheVariants.{EtherType, Tag, TooShort}
 use Rattle.frame_codec.specs.Meaning.{ArpPacket, Content, Meaning, RealTime, UdpDatagram}
 use Rattle.frame_codec.specs.declared.udp.Endpoint.{Endpoint}
@@ -195,8 +193,20 @@ module _ (frame to from behind : List ℕ) (front : IsFront frame to from behind
       let most : longest meaning.tag ≡ 1518 = ap longest tag in
       read_at frame meaning id body 16 (tagged_place frame _ word tagged) (front_to frame to from behind front ∙ same_to) (front_from frame to from behind front ∙ same_from)
       (typed ∙ carried.type) number rest
-      (omega (arith, front_length frame to from behind front, one, length-append first (word_of_tag ++ (type ++ octets)), length-append word_of_tag (type ++ octets), length-append type octets,
-      two, two_tag, two_type, other_one, length-append carried.front body, carried.two))
+      (omega (
+        arith,
+        front_length frame to from behind front,
+        one,
+        length-append first (word_of_tag ++ (type ++ octets)),
+        length-append word_of_tag (type ++ octets),
+        length-append type octets,
+        two,
+        two_tag,
+        two_type,
+        other_one,
+        length-append carried.front body,
+        carried.two,
+      ))
       (omega (arith, short, most))
 
   -- By the first two octets.
@@ -331,15 +341,27 @@ tagged_there frame tag type long short =
           (
             (mac_of (take 6 frame), (mac_of (take 6 one), (number, 0x8892))),
             refl,
-            (one, six_cut frame (omega (arith, long)), (two, six_cut one (omega (arith, long, a)), (
-              (0x8100, Some (word_at 14 frame, 0x8892)),
-              refl,
-              (three, two_cut two 0x8100 (omega (arith, long, a, b)) first, (
-                (word_at 14 frame, 0x8892),
-                refl,
-                (four, two_cut three (word_at 14 frame) (omega (arith, long, a, b, c)) word, two_cut four 0x8892 (omega (arith, long, a, b, c, d)) last),
-              )),
-            ))),
+            (
+              one,
+              six_cut frame (omega (arith, long)),
+              (
+                two,
+                six_cut one (omega (arith, long, a)),
+                (
+                  (0x8100, Some (word_at 14 frame, 0x8892)),
+                  refl,
+                  (
+                    three,
+                    two_cut two 0x8100 (omega (arith, long, a, b)) first,
+                    (
+                      (word_at 14 frame, 0x8892),
+                      refl,
+                      (four, two_cut three (word_at 14 frame) (omega (arith, long, a, b, c)) word, two_cut four 0x8892 (omega (arith, long, a, b, c, d)) last),
+                    ),
+                  ),
+                ),
+              ),
+            ),
           ),
           data_there rest (omega (arith, long, a, b, c, d, e)),
         ),

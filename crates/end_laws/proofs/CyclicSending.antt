@@ -1,5 +1,5 @@
 -- The cyclic frames that an end sends are those of the independent words.
-use Rattle.std.proofs.Common.{◌≡◌, ◌⊎◌, inl, inr, ap, ◌+◌, ◌%◌, ◌≤◌, ◌<◌, ◌==◌, ◌&&◌, ◌||◌, ◌^◌, ℕ, Bool, true, false, cond, not, List, [], ◌∷◌, ◌++◌, length, map, take, drop, Option, Some, None, Result, Ok, Err, refl, sym, subst, ◌∙◌, append_assoc, arith}
+use Rattle.std.proofs.Common.{◌≡◌, ap, ◌+◌, ◌≤◌, ◌<◌, ℕ, Bool, true, false, List, [], ◌∷◌, ◌++◌, length, map, Some, None, refl, sym, subst, ◌∙◌, append_assoc, arith}
 use Rattle.std.specs.Prelude.{if◌then◌else◌}
 use Rattle.std.specs.List.{AllByRecursion}
 use Rattle.std.proofs.lemmas.List.{append-nil, length-append}
@@ -96,8 +96,16 @@ are_written octets state counter more few =
     ∙ ap (λ (l : List ℕ). big_bytes 2 counter ++ l) (append_assoc (big_bytes 1 status) (big_bytes 1 0 ++ []) more
     ∙ ap (λ (l : List ℕ). big_bytes 1 status ++ l) (ap (λ (l : List ℕ). l ++ more) (append-nil (big_bytes 1 0))))) in
     subst (λ (l : List ℕ). HasTail (length octets) state counter l) (sym is) (record {
-      long = omega (arith, length-append octets first, length-append (big_bytes 2 counter) second, length-append (big_bytes 1 status) last, length-append (big_bytes 1 0) more,
-      length-bytes_high_first 2 counter, length-bytes_high_first 1 status, length-bytes_high_first 1 0);
+      long = omega (
+        arith,
+        length-append octets first,
+        length-append (big_bytes 2 counter) second,
+        length-append (big_bytes 1 status) last,
+        length-append (big_bytes 1 0) more,
+        length-bytes_high_first 2 counter,
+        length-bytes_high_first 1 status,
+        length-bytes_high_first 1 0,
+      );
       counter_is = ap (λ (n : ℕ). word_at n (octets ++ first)) (sym none) ∙ (word_behind octets first (length octets) 0 refl ∙ word_written counter second few);
       status = octet_behind octets first (length octets) 2 refl ∙ (octet_behind (big_bytes 2 counter) second 2 0 (length-bytes_high_first 2 counter)
           ∙ octet_written status last (status_small state));

@@ -1,5 +1,5 @@
 -- Cyclic frames of real time (IEC 61158-6-10, 4.7): EtherType 0x8892, FrameID, data, CycleCounter, DataStatus, TransferStatus.
-use Rattle.std.specs.Prelude.{◌≡◌, ◌≤◌, ◌+◌, ◌-◌, ◌%◌, ◌==◌, ◌&&◌, ◌||◌, ℕ, Bool, true, false, not, nat_le, List, take, length, Option, Some, None}
+use Rattle.std.specs.Prelude.{◌≡◌, ◌≤◌, ◌+◌, ◌-◌, ◌%◌, ◌&&◌, ◌||◌, ℕ, Bool, true, false, not, nat_le, List, take, length, Option, Some, None}
 use Rattle.field_words.specs.Octets.{has_bit, octet_at, part_at, type_place, word_at}
 
 -- ---- the fields, if there are this many octets of data (4.7.1)

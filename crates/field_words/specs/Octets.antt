@@ -1,5 +1,5 @@
 -- Octets and numbers at places of a frame of Ethernet (IEEE 802.3, 3.1; IEC 61158-6-10, 4.2).
-use Rattle.std.specs.Prelude.{◌≡◌, ◌+◌, ◌*◌, ◌^◌, ◌==◌, ℕ, Bool, List, take, drop, get_or, bit_and, if◌then◌else◌}
+use Rattle.std.specs.Prelude.{◌+◌, ◌*◌, ◌^◌, ◌==◌, ℕ, Bool, List, take, drop, get_or, bit_and, if◌then◌else◌}
 
 -- The octet at a place.
 abbrev pub octet_at : ℕ → List ℕ → ℕ

@@ -1,4 +1,4 @@
-use Rattle.std.proofs.Common.{◌≡◌, ap, ℕ, List, sym, subst, ◌∙◌}
+use Rattle.std.proofs.Common.{ap, ℕ, List, sym, subst, ◌∙◌}
 use Rattle.controller_core.specs.declared.stored.event.Event.{Event}
 use Rattle.controller_core.specs.Machine.{Stepped, step_of}
 use Rattle.controller_core.specs.stored.State.{Controlling}
