@@ -67,7 +67,7 @@ use Rattle.cyclic_data.specs.declared.exchange.received.Received.{Received}
 use Rattle.cyclic_data.specs.declared.exchange.received.Received.TheVariants as received
 use Rattle.cyclic_data.specs.declared.exchange.route.Route.{Route}
 use Rattle.cyclic_data.specs.exchange.Cyclic.{Cyclic as CyclicEnd}
-use Rattle.cyclic_data.specs.Image.{Cell, cell_at, changed, has_size, with_value}
+use Rattle.cyclic_data.specs.Image.{Cell, Shown, cell_at, changed, has_size, with_value}
 use Rattle.cyclic_data.specs.Timing.{Hearing, held_on, unit_later}
 use Rattle.cyclic_data.specs.declared.place.PlaceKind.TheVariants.{Data as at_data}
 use Rattle.connects.specs.declared.requests.parts.Ar.{Ar}
@@ -113,6 +113,7 @@ use Rattle.device_core.specs.Handled.{change_of, counted_by, number_now, Handled
 use Rattle.device_core.specs.Modules.{call_after, calling_after, changed_rest, next_call_sent, outside, plug_of, pull_of, sent_after, slot_pull_of}
 use Rattle.device_core.specs.Several.{Judged, judged_each}
 use Rattle.device_core.specs.Machine.{Stepped, Finished, effect_link, farewells_at, finished, first_answer, handled_step, heard_step, items_in, link_after, link_behind, one_link, resets, written_as}
+use Rattle.end_laws.specs.cyclic.Ends.{Got, got_at}
 use Rattle.end_laws.specs.device.Exchange.{IsUnaccepted, accepted, affects, given_with, is_inputs, is_unit, made_with, sends_inputs}
 use Rattle.end_laws.specs.device.Turn.{alarm_heard, change_by, change_heard, input_heard, modules_after}
 use Rattle.end_laws.proofs.DeviceInputs.{IsPaired, Shows, changes as pulls, frame_still, gives, rates, restates, shows_as, still, value as cell_value, zeros_if}
@@ -245,11 +246,17 @@ refused_second uuid blocks request e = refused_pieces uuid (pieces_of blocks) re
 
 -- ---- what is heard
 
--- It is neither a unit nor an input, and changes no modules.
+-- Whether the application runs, after what is heard: as it says now, or as before.
+abbrev pub running_then : Heard → Bool → Bool
+running_then (Applied (local.ProviderState is_running)) was = is_running
+running_then heard was = was
+
+-- It is neither a unit nor an input, changes no modules, and says nothing of whether the application runs.
 pub record IsQuiet (live : Live) (heard : Heard) : Type 0 where
   pub unit : is_unit heard ≡ false
   pub value : (slot subslot size : ℕ) → given_with slot subslot size heard ≡ None
   pub made : made_with live heard ≡ None
+  pub runs : (was : Bool) → running_then heard was ≡ was
 
 -- ---- what becomes of the exchange
 
@@ -272,6 +279,8 @@ module _ (live : Live) (link : RelationState) where
         → Shows slot subslot (λ (cell : Cell). value_then (affects (made_with live heard) slot subslot) (given_with slot subslot cell.place.size heard) cell) link.flow flow
     pub hears : link.phase ≡ Exchanging → IsUnaccepted heard (Some link)
         → hearing_of flow.cyclic ≡ (if is_unit heard then waiting_on (hearing_of link.flow.cyclic) else hearing_of link.flow.cyclic)
+    pub receives : IsUnaccepted heard (Some link) → got_at flow.cyclic ≡ got_at link.flow.cyclic
+    pub runs : flow.is_running ≡ running_then heard link.flow.is_running
 
   -- If a relation is left, its exchange goes on; and no frame of inputs is sent, except with a unit.
   pub record Does (heard : Heard) (end : Finished) : Type 0 where
@@ -288,6 +297,16 @@ module _ (live : Live) (link : RelationState) where
         → flow.cyclic.sending ≡ (if is_unit heard then unit_later link.flow.cyclic.sending else link.flow.cyclic.sending)
     still_sends flow same = same ∙ sym (ap (λ (b : Bool). if b then unit_later link.flow.cyclic.sending else link.flow.cyclic.sending) unit)
 
+  -- the application says whether it runs
+  turns : (is_running : Bool) → Follows (Applied (local.ProviderState is_running)) (turned link.flow is_running)
+  turns is_running = record {
+    sends = refl;
+    inputs = λ slot subslot paired. still slot subslot link.flow (turned link.flow is_running) refl refl;
+    hears = λ phase none. refl;
+    receives = λ none. refl;
+    runs = refl;
+  }
+
   module _ (heard : Heard) (quiet : IsQuiet live heard) where
     -- no input changes
     none_then : (slot subslot : ℕ) (cell : Cell) → cell.value ≡ value_then (affects (made_with live heard) slot subslot) (given_with slot subslot cell.place.size heard) cell
@@ -298,27 +317,30 @@ module _ (live : Live) (link : RelationState) where
     -- the exchange goes on with an event that is neither a unit nor an input, and changes no modules
     goes_by : (flow : Flow) → flow.cyclic.sending ≡ link.flow.cyclic.sending → ((slot subslot : ℕ) → Shows slot subslot cell_value link.flow flow)
         → (link.phase ≡ Exchanging → IsUnaccepted heard (Some link) → hearing_of flow.cyclic ≡ hearing_of link.flow.cyclic)
-        → Follows heard flow
-    goes_by flow sends shows hears = record {
+        → (IsUnaccepted heard (Some link) → got_at flow.cyclic ≡ got_at link.flow.cyclic) → flow.is_running ≡ link.flow.is_running → Follows heard flow
+    goes_by flow sends shows hears got runs = record {
       sends = still_sends heard quiet.unit flow sends;
       inputs = λ slot subslot paired. shows_as slot subslot cell_value _ link.flow flow (none_then slot subslot) (shows slot subslot);
       hears = λ phase unaccepted. still_hears heard quiet.unit flow (hears phase unaccepted);
+      receives = got;
+      runs = runs ∙ sym (quiet.runs link.flow.is_running);
     }
 
     -- what is shown stays too
-    same_by : (flow : Flow) → flow.cyclic ≡ link.flow.cyclic → flow.marks ≡ link.flow.marks → Follows heard flow
-    same_by flow cyclic marks =
+    same_by : (flow : Flow) → flow.cyclic ≡ link.flow.cyclic → flow.marks ≡ link.flow.marks → flow.is_running ≡ link.flow.is_running → Follows heard flow
+    same_by flow cyclic marks runs =
         goes_by flow (ap (λ (c : CyclicEnd). c.sending) cyclic)
         (λ slot subslot. still slot subslot link.flow flow (ap (λ (c : CyclicEnd). c.shown) cyclic) marks) (λ phase none. ap hearing_of cyclic)
+        (λ none. ap got_at cyclic) runs
 
     calm : Follows heard link.flow
-    calm = same_by link.flow refl refl
+    calm = same_by link.flow refl refl refl
 
     lowers : (low : Low) → Follows heard (with_low link.flow low)
-    lowers low = same_by (with_low link.flow low) refl refl
+    lowers low = same_by (with_low link.flow low) refl refl refl
 
     says : (message : Message) → Follows heard (behind_message link.flow message)
-    says message = same_by (behind_message link.flow message) refl refl
+    says message = same_by (behind_message link.flow message) refl refl refl
 
     raises : (real : List RealModule) (flow : Flow) (slot subslot : ℕ) (octets : List ℕ) → raised_at link.flow real slot subslot octets ≡ Some flow → Follows heard flow
     raises real flow slot subslot octets is = by_idents (module_ident real slot) (submodule_ident real slot subslot) is
@@ -326,7 +348,7 @@ module _ (live : Live) (link : RelationState) where
         by_may : (ident part : ℕ) (b : Bool)
             → (if b then Some (record link.flow { alarms = end_with link.flow.alarms (notice_of link.flow.alarms.sender.specifier slot subslot ident part octets) }) else None) ≡ Some flow
             → Follows heard flow
-        by_may ident part true f = subst (λ (other : Flow). Follows heard other) (some_is _ flow f) (same_by _ refl refl)
+        by_may ident part true f = subst (λ (other : Flow). Follows heard other) (some_is _ flow f) (same_by _ refl refl refl)
         by_may ident part false f = none_some flow f
 
         by_idents : (ident part : Option ℕ) → raised_by link.flow slot subslot octets ident part ≡ Some flow → Follows heard flow
@@ -336,30 +358,27 @@ module _ (live : Live) (link : RelationState) where
 
     rated : (slot subslot : ℕ) (is_good : Bool) → Follows heard (rated_at link.flow slot subslot is_good)
     rated slot subslot is_good =
-        goes_by (rated_at link.flow slot subslot is_good) refl (λ s ss. rates s ss slot subslot is_good link.flow) (λ phase none. refl)
-
-    turns : (is_running : Bool) → Follows heard (turned link.flow is_running)
-    turns is_running = same_by (turned link.flow is_running) refl refl
+        goes_by (rated_at link.flow slot subslot is_good) refl (λ s ss. rates s ss slot subslot is_good link.flow) (λ phase none. refl) (λ none. refl) refl
 
     comes : (source : Mac) (frame_id : ℕ) (body : List ℕ) → (IsUnaccepted heard (Some link) → ⊥) → Follows heard (behind_frame link.flow source frame_id body)
     comes source frame_id body accepts =
         let same = frame_still link.flow.cyclic source frame_id body in
         goes_by (behind_frame link.flow source frame_id body) same.0
-        (λ slot subslot. still slot subslot link.flow (behind_frame link.flow source frame_id body) same.1 refl) (λ phase none. absurd (accepts none))
+        (λ slot subslot. still slot subslot link.flow (behind_frame link.flow source frame_id body) same.1 refl) (λ phase none. absurd (accepts none)) (λ none. absurd (accepts none)) refl
 
     begins : (low : Low) → (link.phase ≡ Exchanging → ⊥) → Follows heard (with_low (begun_of link.flow) low)
     begins low before =
         goes_by (with_low (begun_of link.flow) low) refl (λ slot subslot. still slot subslot link.flow (with_low (begun_of link.flow) low) refl refl)
-        (λ phase none. absurd (before phase))
+        (λ phase none. absurd (before phase)) (λ none. refl) refl
 
     -- IOPS and IOCS follow the places, if an answer counts
     answered_with_plugs : (meaning : PlugAnswer) (plugs : PlugState) → Follows heard (flow_answered meaning plugs link.flow)
     answered_with_plugs to_plug.NotWanted plugs = calm
     answered_with_plugs to_plug.Garbled plugs = calm
     answered_with_plugs to_plug.Confirmed plugs =
-        goes_by (restated_flow plugs link.flow) refl (λ slot subslot. restates slot subslot plugs link.flow) (λ phase none. refl)
+        goes_by (restated_flow plugs link.flow) refl (λ slot subslot. restates slot subslot plugs link.flow) (λ phase none. refl) (λ none. refl) refl
     answered_with_plugs to_plug.Refused plugs =
-        goes_by (restated_flow plugs link.flow) refl (λ slot subslot. restates slot subslot plugs link.flow) (λ phase none. refl)
+        goes_by (restated_flow plugs link.flow) refl (λ slot subslot. restates slot subslot plugs link.flow) (λ phase none. refl) (λ none. refl) refl
 
 module _ (station : Station) (before : Live) (link : RelationState) where
   -- a device with this relation
@@ -442,7 +461,7 @@ module _ (station : Station) (before : Live) (link : RelationState) where
   -- ---- DCP and ARP
 
   quiet_asks : (asker : Mac) (request : Asked) → IsQuiet live (Asks asker request)
-  quiet_asks asker request = record { unit = refl; value = λ slot subslot size. refl; made = refl }
+  quiet_asks asker request = record { unit = refl; value = λ slot subslot size. refl; made = refl; runs = λ was. refl }
 
   sets_as : (heard : Heard) → IsQuiet live heard → (asker : Mac) (request : Asked) (in_operation ends_it : Bool) (answers : List BlockError)
       → resets (plan_of in_operation request) answers ≡ ends_it → Does live link heard (finished station.identity live.rest (Sets asker request in_operation) answers)
@@ -469,8 +488,8 @@ module _ (station : Station) (before : Live) (link : RelationState) where
 
   resolves : (asker : Mac) (packet : Arp) (b : Bool)
       → Done (Resolves asker packet) (if b then Moves live.rest (ArpReply asker live.values.running.suite.address packet.sender ∷ []) else Refuses note.NotMine)
-  resolves asker packet true = λ answers. calms _ (record { unit = refl; value = λ slot subslot size. refl; made = refl }) _ calm_stands refl
-  resolves asker packet false = refuses _ note.NotMine (calm live link _ (record { unit = refl; value = λ slot subslot size. refl; made = refl }))
+  resolves asker packet true = λ answers. calms _ (record { unit = refl; value = λ slot subslot size. refl; made = refl; runs = λ was. refl }) _ calm_stands refl
+  resolves asker packet false = refuses _ note.NotMine (calm live link _ (record { unit = refl; value = λ slot subslot size. refl; made = refl; runs = λ was. refl }))
 
   -- ---- calls
 
@@ -479,7 +498,7 @@ module _ (station : Station) (before : Live) (link : RelationState) where
     now = Reported caller address said
 
     quiet_now : IsQuiet live now
-    quiet_now = record { unit = refl; value = λ slot subslot size. refl; made = refl }
+    quiet_now = record { unit = refl; value = λ slot subslot size. refl; made = refl; runs = λ was. refl }
 
     -- a call that is answered
     serves : (at : Live) (call : Call) (which : Operation) (outcome : Result (List ℕ) CallFault) (after : Option RelationState) (behind : List Sent)
@@ -675,7 +694,7 @@ module _ (station : Station) (before : Live) (link : RelationState) where
   -- ---- what is exchanged
 
   quiet_cyclic : (source : Mac) (frame_id : ℕ) (body : List ℕ) → IsQuiet live (Cyclic source frame_id body)
-  quiet_cyclic source frame_id body = record { unit = refl; value = λ s ss size. refl; made = refl }
+  quiet_cyclic source frame_id body = record { unit = refl; value = λ s ss size. refl; made = refl; runs = λ was. refl }
 
   receives : (source : Mac) (frame_id : ℕ) (body : List ℕ) (what : Received) → received_as link.flow source frame_id body ≡ what
       → Done (Cyclic source frame_id body) (handled_received live what (updated (receiving_as what (behind_frame link.flow source frame_id body)) (Some link)))
@@ -686,38 +705,43 @@ module _ (station : Station) (before : Live) (link : RelationState) where
       becomes _ _ (with_flow (behind_frame link.flow source frame_id body) link)
       (comes live link _ (quiet_cyclic source frame_id body) source frame_id body (λ none. none is)) refl (λ unit. refl)
 
-  -- an input is given
-  input_hearing : (slot subslot : ℕ) (cyclic : CyclicEnd) (awaited : Bool)
-      → hearing_of (if awaited then remarked (with_cyclic link.flow cyclic) slot subslot None else with_cyclic link.flow cyclic).cyclic ≡ hearing_of cyclic
-  input_hearing slot subslot cyclic true = refl
-  input_hearing slot subslot cyclic false = refl
-
-  given_hearing : (slot subslot : ℕ) (value : List ℕ) (fits : Bool)
-      → hearing_of (unwrap_or (option_map (with_input link.flow slot subslot)
+  -- an input is given: what does not depend on what is shown stays
+  given_still : {A : Type 0} (part : CyclicEnd → A) → ((cyclic : CyclicEnd) (shown : Shown) → part (record cyclic { shown = shown }) ≡ part cyclic)
+      → (slot subslot : ℕ) (value : List ℕ) (fits : Bool)
+      → part (unwrap_or (option_map (with_input link.flow slot subslot)
       (if fits then Some (record link.flow.cyclic { shown = changed at_data slot subslot (with_value value) link.flow.cyclic.shown }) else None)) link.flow).cyclic
-      ≡ hearing_of link.flow.cyclic
-  given_hearing slot subslot value true =
-      input_hearing slot subslot (record link.flow.cyclic { shown = changed at_data slot subslot (with_value value) link.flow.cyclic.shown }) (awaits slot subslot link.flow.marks)
-  given_hearing slot subslot value false = refl
+      ≡ part link.flow.cyclic
+  given_still {A} part same slot subslot value false = refl
+  given_still {A} part same slot subslot value true = by_awaited (awaits slot subslot link.flow.marks)
+    where
+      given : CyclicEnd
+      given = record link.flow.cyclic { shown = changed at_data slot subslot (with_value value) link.flow.cyclic.shown }
 
-  given_sends : (slot subslot : ℕ) (value : List ℕ) (fits : Bool)
+      by_awaited : (awaited : Bool)
+          → part (if awaited then remarked (with_cyclic link.flow given) slot subslot None else with_cyclic link.flow given).cyclic ≡ part link.flow.cyclic
+      by_awaited true = same given _ ∙ same link.flow.cyclic _
+      by_awaited false = same link.flow.cyclic _
+
+  given_runs : (slot subslot : ℕ) (value : List ℕ) (fits : Bool)
       → (unwrap_or (option_map (with_input link.flow slot subslot)
-      (if fits then Some (record link.flow.cyclic { shown = changed at_data slot subslot (with_value value) link.flow.cyclic.shown }) else None)) link.flow).cyclic.sending
-      ≡ link.flow.cyclic.sending
-  given_sends slot subslot value true = by_awaited (awaits slot subslot link.flow.marks)
+      (if fits then Some (record link.flow.cyclic { shown = changed at_data slot subslot (with_value value) link.flow.cyclic.shown }) else None)) link.flow).is_running
+      ≡ link.flow.is_running
+  given_runs slot subslot value false = refl
+  given_runs slot subslot value true = by_awaited (awaits slot subslot link.flow.marks)
     where
       by_awaited : (awaited : Bool)
           → (if awaited then remarked (with_cyclic link.flow (record link.flow.cyclic { shown = changed at_data slot subslot (with_value value) link.flow.cyclic.shown })) slot subslot None
-          else with_cyclic link.flow (record link.flow.cyclic { shown = changed at_data slot subslot (with_value value) link.flow.cyclic.shown })).cyclic.sending ≡ link.flow.cyclic.sending
+          else with_cyclic link.flow (record link.flow.cyclic { shown = changed at_data slot subslot (with_value value) link.flow.cyclic.shown })).is_running ≡ link.flow.is_running
       by_awaited true = refl
       by_awaited false = refl
-  given_sends slot subslot value false = refl
 
   gives_on : (slot subslot : ℕ) (value : List ℕ) → Follows live link (input_heard slot subslot value) (unwrap_or (given_at link.flow slot subslot value) link.flow)
   gives_on slot subslot value = record {
-    sends = given_sends slot subslot value (has_size (length value) (cell_at at_data slot subslot link.flow.cyclic.shown.cells));
+    sends = given_still (λ cyclic. cyclic.sending) (λ cyclic shown. refl) slot subslot value (has_size (length value) (cell_at at_data slot subslot link.flow.cyclic.shown.cells));
     inputs = λ s ss paired. gives s ss slot subslot value link.flow;
-    hears = λ phase none. given_hearing slot subslot value (has_size (length value) (cell_at at_data slot subslot link.flow.cyclic.shown.cells));
+    hears = λ phase none. given_still hearing_of (λ cyclic shown. refl) slot subslot value (has_size (length value) (cell_at at_data slot subslot link.flow.cyclic.shown.cells));
+    receives = λ none. given_still got_at (λ cyclic shown. refl) slot subslot value (has_size (length value) (cell_at at_data slot subslot link.flow.cyclic.shown.cells));
+    runs = given_runs slot subslot value (has_size (length value) (cell_at at_data slot subslot link.flow.cyclic.shown.cells));
   }
 
   gives_to : (slot subslot : ℕ) (value : List ℕ) (given : Option Flow) → given_at link.flow slot subslot value ≡ given → Done (input_heard slot subslot value) (handled_input live given)
@@ -728,23 +752,20 @@ module _ (station : Station) (before : Live) (link : RelationState) where
       refuses _ note.Refused (subst (λ (o : Option Flow). Follows live link (input_heard slot subslot value) (unwrap_or o link.flow)) is (gives_on slot subslot value))
 
   quiet_rated : (slot subslot : ℕ) (is_good : Bool) → IsQuiet live (Applied (local.Status slot subslot is_good))
-  quiet_rated slot subslot is_good = record { unit = refl; value = λ s ss size. refl; made = refl }
+  quiet_rated slot subslot is_good = record { unit = refl; value = λ s ss size. refl; made = refl; runs = λ was. refl }
 
   rates_as : (slot subslot : ℕ) (is_good : Bool) (statuses : Option (List InputStatus)) → Done (Applied (local.Status slot subslot is_good)) (kept_status live slot subslot is_good statuses)
   rates_as slot subslot is_good (Some statuses) = λ answers.
       becomes _ _ (with_flow (rated_at link.flow slot subslot is_good) link) (rated live link _ (quiet_rated slot subslot is_good) slot subslot is_good) refl (λ unit. refl)
   rates_as slot subslot is_good None = refuses _ note.Refused (calm live link _ (quiet_rated slot subslot is_good))
 
-  quiet_turned : (is_running : Bool) → IsQuiet live (Applied (local.ProviderState is_running))
-  quiet_turned is_running = record { unit = refl; value = λ s ss size. refl; made = refl }
-
   turns_so : (is_running : Bool) → Done (Applied (local.ProviderState is_running)) (handled_turned live is_running)
   turns_so is_running = λ answers.
-      becomes _ _ (with_flow (turned link.flow is_running) link) (turns live link _ (quiet_turned is_running) is_running) refl (λ unit. refl)
+      becomes _ _ (with_flow (turned link.flow is_running) link) (turns live link is_running) refl (λ unit. refl)
 
   -- alarms
   quiet_raised : (slot subslot : ℕ) (octets : List ℕ) → IsQuiet live (alarm_heard slot subslot octets)
-  quiet_raised slot subslot octets = record { unit = refl; value = λ s ss size. refl; made = refl }
+  quiet_raised slot subslot octets = record { unit = refl; value = λ s ss size. refl; made = refl; runs = λ was. refl }
 
   notices : (slot subslot : ℕ) (octets : List ℕ) (raised : Option Flow) → raised_at link.flow live.rest.real.modules.items slot subslot octets ≡ raised
       → Done (alarm_heard slot subslot octets) (handled_notice live raised)
@@ -792,7 +813,7 @@ module _ (station : Station) (before : Live) (link : RelationState) where
 
   -- diagnosis
   quiet_change : (change : Change) → IsQuiet live (change_heard change)
-  quiet_change change = record { unit = refl; value = λ s ss size. refl; made = refl }
+  quiet_change change = record { unit = refl; value = λ s ss size. refl; made = refl; runs = λ was. refl }
 
   changes : (change : Change) (later : Option (List Diagnosis)) → Done (change_heard change) (handled_change station live change later)
   changes change (Some later) = λ answers.
@@ -805,7 +826,8 @@ module _ (station : Station) (before : Live) (link : RelationState) where
   diagnoses change false = refuses _ note.Refused (calm live link _ (quiet_change change))
 
   -- something is pulled or plugged
-  module _ (heard : Heard) (unit : is_unit heard ≡ false) (nothing : (slot subslot size : ℕ) → given_with slot subslot size heard ≡ None) (made : RealChange)
+  module _ (heard : Heard) (unit : is_unit heard ≡ false) (nothing : (slot subslot size : ℕ) → given_with slot subslot size heard ≡ None)
+      (still_runs : (was : Bool) → running_then heard was ≡ was) (made : RealChange)
       (is : change_by live.rest.real.modules.items heard ≡ Some made) where
     -- the change that the event makes, by the modules after it and by whether its alarm can wait
     accepted_as : (now : Option (List RealModule)) → modules_after live.rest.real.modules.items heard ≡ now → made_with live heard ≡ accepted (Some made) now live.rest.link
@@ -834,6 +856,8 @@ module _ (station : Station) (before : Live) (link : RelationState) where
               let shows = changed_shows (places_then (rows_now now link) made link) changed slot subslot paired in
               record { marks = shows.marks; is = shows.is };
           hears = λ phase none. still_hears live link heard unit flow (ap hearing_of alone);
+          receives = λ none. ap got_at alone;
+          runs = sym (still_runs link.flow.is_running);
         }
 
     modules_with : (now : List RealModule) (b : Bool) → modules_after live.rest.real.modules.items heard ≡ Some now → is_crowded (affected_by made) live.rest.link ≡ b
@@ -842,6 +866,7 @@ module _ (station : Station) (before : Live) (link : RelationState) where
       unit = unit;
       value = nothing;
       made = accepted_as (Some now) modules ∙ ap (λ (b : Bool). if b then None else Some made) room;
+      runs = still_runs;
     }))
     modules_with now false modules room = λ answers.
         let later = remaining (affected_by made) live.rest.diagnoses in
@@ -854,12 +879,12 @@ module _ (station : Station) (before : Live) (link : RelationState) where
         (low_due alarm (Some after.flow)) (none_due called (plug_calls live.values.running.suite.address (Some after)) (plug_calls_none live.values.running.suite.address (Some after))))
 
     modules_as : (now : Option (List RealModule)) → modules_after live.rest.real.modules.items heard ≡ now → Done heard (handled_modules live made now)
-    modules_as None modules = refuses heard note.Refused (calm live link heard (record { unit = unit; value = nothing; made = accepted_as None modules }))
+    modules_as None modules = refuses heard note.Refused (calm live link heard (record { unit = unit; value = nothing; made = accepted_as None modules; runs = still_runs }))
     modules_as (Some now) modules = modules_with now (is_crowded (affected_by made) live.rest.link) modules refl
 
   -- the application is ready for a plug
   quiet_ready_at : (slot subslot : ℕ) → IsQuiet live (Applied (local.ReadyAt slot subslot))
-  quiet_ready_at slot subslot = record { unit = refl; value = λ s ss size. refl; made = refl }
+  quiet_ready_at slot subslot = record { unit = refl; value = λ s ss size. refl; made = refl; runs = λ was. refl }
 
   readies_at : (slot subslot : ℕ) (b : Bool)
       → Done (Applied (local.ReadyAt slot subslot)) (if b then handled_next_call live (readying_at slot subslot live.rest.link) else Refuses note.Refused)
@@ -871,7 +896,7 @@ module _ (station : Station) (before : Live) (link : RelationState) where
   readies : (preparing : Bool) → Done (Applied local.Ready) (if preparing
       then (let after = updated Prepared live.rest.link in Moves (record live.rest { link = after }) (ready_calls live.values.running.suite.address after)) else Refuses note.Refused)
   readies true = λ answers.
-      calms (Applied local.Ready) (record { unit = refl; value = λ s ss size. refl; made = refl }) _ (calm_map (λ l. prepared_from l) prepared_same live.rest.link calm_stands) (ready_none live.values.running.suite.address (updated Prepared live.rest.link))
+      calms (Applied local.Ready) (record { unit = refl; value = λ s ss size. refl; made = refl; runs = λ was. refl }) _ (calm_map (λ l. prepared_from l) prepared_same live.rest.link calm_stands) (ready_none live.values.running.suite.address (updated Prepared live.rest.link))
     where
       prepared_same : (l : RelationState) → (prepared_from l).flow ≡ l.flow
       prepared_same l = by_phase (is_preparing (Some l.phase))
@@ -879,7 +904,7 @@ module _ (station : Station) (before : Live) (link : RelationState) where
           by_phase : (b : Bool) → (if b then record l { phase = Awaiting; waited = 0 } else l).flow ≡ l.flow
           by_phase true = refl
           by_phase false = refl
-  readies false = refuses (Applied local.Ready) note.Refused (calm live link (Applied local.Ready) (record { unit = refl; value = λ s ss size. refl; made = refl }))
+  readies false = refuses (Applied local.Ready) note.Refused (calm live link (Applied local.Ready) (record { unit = refl; value = λ s ss size. refl; made = refl; runs = λ was. refl }))
 
   -- an answer of the application: the relation goes on, also if it is alive by it
   module _ (heard : Heard) (quiet : IsQuiet live heard) where
@@ -892,7 +917,18 @@ module _ (station : Station) (before : Live) (link : RelationState) where
 
   -- a unit
   passes_on : Follows live link Ticks (flow_later link.flow)
-  passes_on = record { sends = refl; inputs = λ slot subslot paired. still slot subslot link.flow (flow_later link.flow) refl refl; hears = λ phase none. refl }
+  passes_on = record {
+    sends = refl;
+    inputs = λ slot subslot paired. still slot subslot link.flow (flow_later link.flow) refl refl;
+    hears = λ phase none. refl;
+    receives = λ none. by_begun link.flow.cyclic.begun;
+    runs = refl;
+  }
+    where
+      by_begun : (b : Bool)
+          → ◌≡◌ {A = Got} (record { taken = link.flow.cyclic.taken; data_status = link.flow.cyclic.data_status; last = (if b then held_on link.flow.cyclic.hearing else link.flow.cyclic.hearing).last }) (got_at link.flow.cyclic)
+      by_begun true = refl
+      by_begun false = refl
 
   no_unit : true ≡ false → ⊥
   no_unit e = cc
@@ -908,42 +944,42 @@ module _ (station : Station) (before : Live) (link : RelationState) where
   does (Resolves asker packet) = resolves asker packet (is_request packet.operation && is_running live.values.running packet.target.address)
   does (Reported caller address said) = datagram caller address said (is_running live.values.running address)
   does (Alarms source header message) =
-      alarm _ (record { unit = refl; value = λ s ss size. refl; made = refl }) message (is_alarm_of source header.destination header.source live.rest.link)
-  does (LowReplies source header message) = low_reply _ (record { unit = refl; value = λ s ss size. refl; made = refl }) source header message (has_sent_low live.rest.link)
-  does (LowConfirms source header message) = low_confirm _ (record { unit = refl; value = λ s ss size. refl; made = refl }) source header message (has_sent_low live.rest.link)
+      alarm _ (record { unit = refl; value = λ s ss size. refl; made = refl; runs = λ was. refl }) message (is_alarm_of source header.destination header.source live.rest.link)
+  does (LowReplies source header message) = low_reply _ (record { unit = refl; value = λ s ss size. refl; made = refl; runs = λ was. refl }) source header message (has_sent_low live.rest.link)
+  does (LowConfirms source header message) = low_confirm _ (record { unit = refl; value = λ s ss size. refl; made = refl; runs = λ was. refl }) source header message (has_sent_low live.rest.link)
   does (Cyclic source frame_id body) = receives source frame_id body (received_as link.flow source frame_id body) refl
   does (Applied (local.Input slot subslot value)) = gives_to slot subslot value.items (given_at link.flow slot subslot value.items) refl
   does (Applied (local.Alarm slot subslot octets)) = notices slot subslot octets.items (raised_at link.flow live.rest.real.modules.items slot subslot octets.items) refl
   does (Applied (local.Status slot subslot is_good)) =
       rates_as slot subslot is_good (statuses_at live.rest.real.modules.items (record { slot = slot; subslot = subslot; is_good = is_good }) live.rest.statuses)
-  does (Met peer) = λ answers. calms (Met peer) (record { unit = refl; value = λ s ss size. refl; made = refl }) _ calm_stands refl
+  does (Met peer) = λ answers. calms (Met peer) (record { unit = refl; value = λ s ss size. refl; made = refl; runs = λ was. refl }) _ calm_stands refl
   does (Applied (local.Diagnosis slot subslot channel error appears)) =
       let change = change_of slot subslot channel error appears in
       diagnoses change (may_be_diagnosed station live change)
   does (Applied (local.Pull slot subslot)) =
       let real = live.rest.real.modules.items in
-      modules_as (Applied (local.Pull slot subslot)) refl (λ s ss size. refl) (pull_of real slot subslot) refl (outside slot (pulled slot subslot real)) refl
+      modules_as (Applied (local.Pull slot subslot)) refl (λ s ss size. refl) (λ was. refl) (pull_of real slot subslot) refl (outside slot (pulled slot subslot real)) refl
   does (Applied (local.PullModule slot)) =
       let real = live.rest.real.modules.items in
-      modules_as (Applied (local.PullModule slot)) refl (λ s ss size. refl) (slot_pull_of real slot) refl (outside slot (slot_pulled slot real)) refl
+      modules_as (Applied (local.PullModule slot)) refl (λ s ss size. refl) (λ was. refl) (slot_pull_of real slot) refl (outside slot (slot_pulled slot real)) refl
   does (Applied (local.Plug slot ident part)) =
-      modules_as (Applied (local.Plug slot ident part)) refl (λ s ss size. refl) (plug_of slot ident part) refl
+      modules_as (Applied (local.Plug slot ident part)) refl (λ s ss size. refl) (λ was. refl) (plug_of slot ident part) refl
       (plugged_with slot ident part live.rest.real.modules.items) refl
   does (Applied (local.ReadyAt slot subslot)) = readies_at slot subslot (is_readied_in slot subslot live.rest.link)
   does (Applied local.Ready) = readies (is_preparing (phase_of live.rest.link))
   does (Applied (local.ProviderState is_running)) = turns_so is_running
   does (Applied (local.Answer number octets)) =
-      answered_by (Applied (local.Answer number octets)) (record { unit = refl; value = λ s ss size. refl; made = refl })
+      answered_by (Applied (local.Answer number octets)) (record { unit = refl; value = λ s ss size. refl; made = refl; runs = λ was. refl })
       (gives_octets octets.items) (judged number (gives_octets octets.items) live.rest.asked)
   does (Applied (local.Written number)) =
-      answered_by (Applied (local.Written number)) (record { unit = refl; value = λ s ss size. refl; made = refl })
+      answered_by (Applied (local.Written number)) (record { unit = refl; value = λ s ss size. refl; made = refl; runs = λ was. refl })
       gives_done (judged number gives_done live.rest.asked)
   does (Applied (local.Refuse number code1 code2)) =
-      answered_by (Applied (local.Refuse number code1 code2)) (record { unit = refl; value = λ s ss size. refl; made = refl })
+      answered_by (Applied (local.Refuse number code1 code2)) (record { unit = refl; value = λ s ss size. refl; made = refl; runs = λ was. refl })
       (gives_refusal code1 code2) (judged number (gives_refusal code1 code2) live.rest.asked)
   does Ticks = ticks (ending_of link) refl
-  does Unreadable = refuses Unreadable note.Fault (calm live link Unreadable (record { unit = refl; value = λ s ss size. refl; made = refl }))
-  does Elsewhere = refuses Elsewhere note.NotMine (calm live link Elsewhere (record { unit = refl; value = λ s ss size. refl; made = refl }))
+  does Unreadable = refuses Unreadable note.Fault (calm live link Unreadable (record { unit = refl; value = λ s ss size. refl; made = refl; runs = λ was. refl }))
+  does Elsewhere = refuses Elsewhere note.NotMine (calm live link Elsewhere (record { unit = refl; value = λ s ss size. refl; made = refl; runs = λ was. refl }))
 
 -- One step of a device with a relation, whatever its flash does.
 pub record DoesIn (live : Live) (link : RelationState) (heard : Heard) (step : Stepped) : Type 0 where

@@ -48,3 +48,10 @@ pub mod AnswersReading
 pub mod AnswersStoring
 pub mod AnswersWalking
 pub mod LogReading
+pub mod CyclicPlaces
+pub mod CyclicAccepting
+pub mod CyclicSending
+pub mod CyclicDevice
+pub mod CyclicInputs
+pub mod CyclicController
+pub mod CyclicOutputs

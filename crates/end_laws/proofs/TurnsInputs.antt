@@ -28,6 +28,7 @@ use Rattle.cyclic_data.specs.Image.{Cell, Shown, cell_of, with_frame}
 use Rattle.cyclic_data.specs.declared.tail.CyclicTail.{CyclicTail}
 use Rattle.cyclic_data.specs.declared.tail.ShortFrame.{ShortFrame}
 use Rattle.cyclic_data.specs.Tail.{cyclic_of}
+use Rattle.cyclic_data.specs.Timing.{held_on}
 use Rattle.cyclic_data.specs.exchange.Cyclic.{Cyclic as CyclicEnd}
 use Rattle.cyclic_data.specs.exchange.Received.{behind_frame, behind_read, is_new, is_of_partner, taken_from}
 use Rattle.connects.specs.declared.answers.connect.Found.{Found}
@@ -64,6 +65,7 @@ use Rattle.controller_core.specs.stored.Alarms.{ack_of, is_alarm, kept_alarm}
 use Rattle.controller_core.specs.stored.Cause.{cause_of}
 use Rattle.controller_core.specs.stored.State.{Controlling, Live}
 use Rattle.controller_core.specs.Machine.{Turn, acked_under, acking, after_turn, after_write, alarmed, answered, asks_next, behind_data, beside, brings, brought, called, can_begin, can_request, connected, decided, done, end_of, flow_later, flowed, fresh_with, granted, is_again, is_plug_awaited, is_spent, keeping, later, noted, noticed, over, past_record, placed, plug_called, plug_replied, quit, readied, refused, refused_beside, refused_by, rejected, related_by, released, replied, requested, requests_of, responded, standing, stays, step_of, taken, ticked, turn_of, undone, where_due, with_end, writing, refused_end, refused_write, trying}
+use Rattle.end_laws.specs.cyclic.Ends.{Got, got_at}
 use Rattle.end_laws.specs.turns.Beside.{IsBeside, MayFollow, flow_begun}
 use Rattle.end_laws.specs.turns.Inputs.{AreZeros, Brings, ComeFromOne, ShowsWhatCame, ShowsNothingWithout, no_inputs}
 use Rattle.end_laws.specs.turns.Runs.{behind_all}
@@ -72,34 +74,45 @@ use Rattle.end_laws.proofs.TurnsBeside.{begins, begun_beside, flows, follows, go
 use Rattle.end_laws.proofs.TurnsCauses.{turn_by_event}
 
 module _ (setup : Setup) (live : Live) where
-  -- The inputs are unchanged, and an established relation stays so; or they are zeros from now on.
-  record Keeps (next : Live) : Type 0 where
-    taken : next.cyclic.taken ≡ live.cyclic.taken
-    stands : live.stands ≡ true → next.stands ≡ true
+  -- What was received is unchanged, and an established relation stays so; or the inputs are zeros from now on.
+  pub record Keeps (next : Live) : Type 0 where
+    pub received : got_at next.cyclic ≡ got_at live.cyclic
+    pub stands : live.stands ≡ true → next.stands ≡ true
 
-  abbrev IsZeroed : Live → Type 0
-  IsZeroed next = next.cyclic.taken ≡ with_frame (replicate live.cyclic.taken.data_length 0) live.cyclic.taken
+  taken_kept : (next : Live) → Keeps next → next.cyclic.taken ≡ live.cyclic.taken
+  taken_kept next k = ap (λ (g : Got). g.taken) k.received
 
-  record Goes (turn : Turn) : Type 0 where
-    either_so : Keeps turn.live ⊎ IsZeroed turn.live
+  zeros_from : (next : Live) → got_at next.cyclic ≡ got_at live.cyclic → next.cyclic.taken ≡ live.cyclic.taken
+  zeros_from next same = ap (λ (g : Got). g.taken) same
 
-  keeps : (turn : Turn) → turn.live.cyclic.taken ≡ live.cyclic.taken → (live.stands ≡ true → turn.live.stands ≡ true) → Goes turn
-  keeps turn same stands = record { either_so = inl (record { taken = same; stands = stands }) }
+  -- A unit leaves what was received.
+  later_received : (begun : Bool) → ◌≡◌ {A = Got} (record { taken = live.cyclic.taken; data_status = live.cyclic.data_status; last = (if begun then held_on live.cyclic.hearing else live.cyclic.hearing).last }) (got_at live.cyclic)
+  later_received true = refl
+  later_received false = refl
+
+  abbrev pub IsZeroed : Live → Type 0
+  IsZeroed next = (next.cyclic.taken ≡ with_frame (replicate live.cyclic.taken.data_length 0) live.cyclic.taken) × (next.stands ≡ false)
+
+  pub record Goes (turn : Turn) : Type 0 where
+    pub either_so : Keeps turn.live ⊎ IsZeroed turn.live
+
+  keeps : (turn : Turn) → got_at turn.live.cyclic ≡ got_at live.cyclic → (live.stands ≡ true → turn.live.stands ≡ true) → Goes turn
+  keeps turn same stands = record { either_so = inl (record { received = same; stands = stands }) }
 
   rests : Goes (stays live)
   rests = keeps (stays live) refl (λ up. up)
 
   ends : (cause : Cause) (next : Live) (sent : List Sent) → next.cyclic.taken ≡ live.cyclic.taken → Goes (record { live = over cause next; sent = sent })
-  ends cause next sent same = record { either_so = inr (ap (λ (shown : Shown). with_frame (replicate shown.data_length 0) shown) same) }
+  ends cause next sent same = record { either_so = inr (ap (λ (shown : Shown). with_frame (replicate shown.data_length 0) shown) same, refl) }
 
   releases : (cause : Cause) (next : Live) → next.cyclic.taken ≡ live.cyclic.taken → Goes (released setup cause next)
-  releases cause next same = record { either_so = inr (ap (λ (shown : Shown). with_frame (replicate shown.data_length 0) shown) same) }
+  releases cause next same = record { either_so = inr (ap (λ (shown : Shown). with_frame (replicate shown.data_length 0) shown) same, refl) }
 
   either : (is : Bool) {x y : Turn} → Goes x → Goes y → Goes (if is then x else y)
   either true one other = one
   either false one other = other
 
-  writes : (request : Request) (next : Live) → next.cyclic.taken ≡ live.cyclic.taken → (live.stands ≡ true → next.stands ≡ true) → Goes (writing setup request next)
+  writes : (request : Request) (next : Live) → got_at next.cyclic ≡ got_at live.cyclic → (live.stands ≡ true → next.stands ≡ true) → Goes (writing setup request next)
   writes request next same stands = keeps (writing setup request next) same stands
 
   answered_goes : (source : Mac) (answer : Answered) (phase : State) → Goes (answered setup live source answer phase)
@@ -116,8 +129,8 @@ module _ (setup : Setup) (live : Live) where
   beside_goes before after beside is = record { either_so = by_way is.either_so }
     where
       by_way : Keeps before ⊎ IsZeroed before → Keeps after.live ⊎ IsZeroed after.live
-      by_way (inl k) = inl (record { taken = ap (λ (l : Live). l.cyclic.taken) beside ∙ k.taken; stands = λ up. ap (λ (l : Live). l.stands) beside ∙ k.stands up })
-      by_way (inr z) = inr (ap (λ (l : Live). l.cyclic.taken) beside ∙ z)
+      by_way (inl k) = inl (record { received = ap (λ (l : Live). got_at l.cyclic) beside ∙ k.received; stands = λ up. ap (λ (l : Live). l.stands) beside ∙ k.stands up })
+      by_way (inr z) = inr (ap (λ (l : Live). l.cyclic.taken) beside ∙ z.0, ap (λ (l : Live). l.stands) beside ∙ z.1)
 
   follows_goes : (turn after : Turn) → MayFollow setup turn after → Goes turn → Goes after
   follows_goes turn after (inl e) is = subst (λ (t : Turn). Goes t) (sym e) is
@@ -183,7 +196,7 @@ module _ (setup : Setup) (live : Live) where
     stands : next.stands ≡ live.stands
 
   same_goes : (next : Live) → IsSame next → Goes (stays next)
-  same_goes next is = keeps (stays next) (ap (λ (c : CyclicEnd). c.taken) is.cyclic) (λ up. is.stands ∙ up)
+  same_goes next is = keeps (stays next) (ap got_at is.cyclic) (λ up. is.stands ∙ up)
 
   same_if : (is : Bool) {x y : Live} → IsSame x → IsSame y → IsSame (if is then x else y)
   same_if true one other = one
@@ -211,7 +224,7 @@ module _ (setup : Setup) (live : Live) where
   beside_responds response (Some request) =
       let step = replied_step setup live response.status request in
       either (is_plug_answer setup request response.header.activity response.header.sequence)
-      (keeps (asks_next (plug_replied setup live response.status request)) (ap (λ (l : Live). l.cyclic.taken) step) (λ up. ap (λ (l : Live). l.stands) step ∙ up)) rests
+      (keeps (asks_next (plug_replied setup live response.status request)) (ap (λ (l : Live). got_at l.cyclic) step) (λ up. ap (λ (l : Live). l.stands) step ∙ up)) rests
   beside_responds response None = same_goes _ (replied_same response live.access.waiting)
 
   responded_goes : (response : Response) (asked : Option Request) → Goes (responded setup live response asked)
@@ -277,10 +290,10 @@ module _ (setup : Setup) (live : Live) where
   noticed_goes under (notice.Data number report) =
       let one = end_alike live report.priority (with_data (end_of live report.priority) number) in
       let two = taken_alike (behind_data live report.priority number) report (taken_as (end_of live report.priority).seen number) in
-      keeps _ (ap (λ (c : CyclicEnd). c.taken) (two.cyclic ∙ one.cyclic)) (λ up. two.stands ∙ (one.stands ∙ up))
+      keeps _ (ap got_at (two.cyclic ∙ one.cyclic)) (λ up. two.stands ∙ (one.stands ∙ up))
   noticed_goes under (notice.Ack number) =
       let one = end_alike live (acked_under live under) (with_ack (end_of live (acked_under live under)) number) in
-      keeps _ (ap (λ (c : CyclicEnd). c.taken) one.cyclic) (λ up. one.stands ∙ up)
+      keeps _ (ap got_at one.cyclic) (λ up. one.stands ∙ up)
   noticed_goes under notice.Nack = rests
   noticed_goes under (notice.Abort status) = ends why.Aborted live [] refl
 
@@ -293,7 +306,7 @@ module _ (setup : Setup) (live : Live) where
 
   flowed_goes : (ending : Option Abort) → Goes (flowed unit_over (due live.alarms.sending) (due live.low_alarms.sending) (is_again live) (brought live) ending)
   flowed_goes (Some because) = ends (cause_of because) unit_over _ (ap (λ (l : Live). l.cyclic.taken) unit_beside)
-  flowed_goes None = beside_goes (flow_later live) _ unit_beside (keeps (stays (flow_later live)) refl (λ up. up))
+  flowed_goes None = beside_goes (flow_later live) _ unit_beside (keeps (stays (flow_later live)) (later_received live.cyclic.begun) (λ up. up))
 
   gone_on_goes : (is : Bool) → Goes (if is then flowed unit_over (due live.alarms.sending) (due live.low_alarms.sending) (is_again live) (brought live) (brought live).ending
       else record { live = unit_begun setup live; sent = where_due (is_again live) (requests_of live.device live.asked) })
@@ -302,15 +315,15 @@ module _ (setup : Setup) (live : Live) where
       beside_goes (later live) (record { live = unit_begun setup live; sent = where_due (is_again live) (requests_of live.device live.asked) })
       (begun_beside setup (later live) (unit_begun setup live) (begins setup (is_again live) (later live))) (keeps (stays (later live)) refl (λ up. up))
 
-  quit_goes : (cause : Cause) (next : Live) (phase : State) → next.cyclic.taken ≡ live.cyclic.taken → (live.stands ≡ true → next.stands ≡ true) → Goes (quit setup cause next phase)
-  quit_goes cause next Looking same stands = ends cause next [] same
-  quit_goes cause next Addressing same stands = ends cause next [] same
+  quit_goes : (cause : Cause) (next : Live) (phase : State) → got_at next.cyclic ≡ got_at live.cyclic → (live.stands ≡ true → next.stands ≡ true) → Goes (quit setup cause next phase)
+  quit_goes cause next Looking same stands = ends cause next [] (zeros_from next same)
+  quit_goes cause next Addressing same stands = ends cause next [] (zeros_from next same)
   quit_goes cause next (Ended before) same stands = keeps (stays next) same stands
-  quit_goes cause next Connecting same stands = releases cause next same
-  quit_goes cause next Writing same stands = releases cause next same
-  quit_goes cause next Ending same stands = releases cause next same
-  quit_goes cause next Waiting same stands = releases cause next same
-  quit_goes cause next Exchanging same stands = releases cause next same
+  quit_goes cause next Connecting same stands = releases cause next (zeros_from next same)
+  quit_goes cause next Writing same stands = releases cause next (zeros_from next same)
+  quit_goes cause next Ending same stands = releases cause next (zeros_from next same)
+  quit_goes cause next Waiting same stands = releases cause next (zeros_from next same)
+  quit_goes cause next Exchanging same stands = releases cause next (zeros_from next same)
 
   ticked_goes : Goes (ticked setup live)
   ticked_goes = either (is_spent live) (quit_goes why.NoProgress (later live) live.phase refl (λ up. up))
@@ -322,22 +335,22 @@ module _ (setup : Setup) (live : Live) where
   -- ---- a cyclic frame
 
   -- These octets are brought by a frame that is accepted.
-  record Takes (source : Mac) (frame_id : ℕ) (body : List ℕ) (next : Live) : Type 0 where
-    stood : live.stands ≡ true
-    own : is_of_partner live.cyclic.route source frame_id ≡ true
-    octets : List ℕ
-    tail : CyclicTail
-    read : cyclic_of live.cyclic.taken.data_length body ≡ Ok (octets, tail)
-    newer : is_new live.cyclic tail ≡ true
-    are : next.cyclic.taken ≡ with_frame octets live.cyclic.taken
-    stands : next.stands ≡ true
+  pub record Takes (source : Mac) (frame_id : ℕ) (body : List ℕ) (next : Live) : Type 0 where
+    pub stood : live.stands ≡ true
+    pub own : is_of_partner live.cyclic.route source frame_id ≡ true
+    pub octets : List ℕ
+    pub tail : CyclicTail
+    pub read : cyclic_of live.cyclic.taken.data_length body ≡ Ok (octets, tail)
+    pub newer : is_new live.cyclic tail ≡ true
+    pub are : next.cyclic.taken ≡ with_frame octets live.cyclic.taken
+    pub stands : next.stands ≡ true
 
-  abbrev GoesOrTakes : Mac → ℕ → List ℕ → Live → Type 0
+  abbrev pub GoesOrTakes : Mac → ℕ → List ℕ → Live → Type 0
   GoesOrTakes source frame_id body next = (Keeps next ⊎ IsZeroed next) ⊎ Takes source frame_id body next
 
   module _ (source : Mac) (frame_id : ℕ) (body : List ℕ) where
-    unchanged : (cyclic : CyclicEnd) → cyclic.taken ≡ live.cyclic.taken → GoesOrTakes source frame_id body (record live { cyclic = cyclic })
-    unchanged cyclic same = inl (inl (record { taken = same; stands = λ up. up }))
+    unchanged : (cyclic : CyclicEnd) → got_at cyclic ≡ got_at live.cyclic → GoesOrTakes source frame_id body (record live { cyclic = cyclic })
+    unchanged cyclic same = inl (inl (record { received = same; stands = λ up. up }))
 
     newer_as : (x : List ℕ × CyclicTail) (b : Bool) → live.stands ≡ true → is_of_partner live.cyclic.route source frame_id ≡ true → cyclic_of live.cyclic.taken.data_length body ≡ Ok x
         → is_new live.cyclic x.1 ≡ b → GoesOrTakes source frame_id body (record live { cyclic = if b then taken_from live.cyclic x.0 x.1 else live.cyclic })
@@ -356,14 +369,14 @@ module _ (setup : Setup) (live : Live) where
 
     stands_as : (b : Bool) → live.stands ≡ b → GoesOrTakes source frame_id body (if b then record live { cyclic = behind_frame live.cyclic source frame_id body } else live)
     stands_as true up = partner_as (is_of_partner live.cyclic.route source frame_id) up refl
-    stands_as false down = inl (inl (record { taken = refl; stands = λ up. up }))
+    stands_as false down = inl (inl (record { received = refl; stands = λ up. up }))
 
   -- What a turn does to the inputs, by what comes.
-  abbrev GoesBy : Came → Turn → Type 0
+  abbrev pub GoesBy : Came → Turn → Type 0
   GoesBy (Hears (Comes source frame_id body)) turn = GoesOrTakes source frame_id body turn.live
   GoesBy came turn = Goes turn
 
-  came_goes : (came : Came) → GoesBy came (turn_for setup live came)
+  pub came_goes : (came : Came) → GoesBy came (turn_for setup live came)
   came_goes (Hears Nothing) = rests
   came_goes (Hears (Answers source answer)) = answered_goes source answer live.phase
   came_goes (Hears (Responds response)) = after_goes (responded setup live response live.asked) (responded_goes response live.asked)
@@ -433,16 +446,16 @@ module _ (plan : Parts) (first : Controlling) where
     kept : Keeps now.setup now.live next → After
     kept k = record {
       setup = holds.setup;
-      size = ap (λ (shown : Shown). shown.data_length) k.taken ∙ holds.size;
-      places = λ octets. ap (λ (shown : Shown). with_frame octets shown) k.taken ∙ holds.places octets;
+      size = ap (λ (shown : Shown). shown.data_length) (taken_kept now.setup now.live next k) ∙ holds.size;
+      places = λ octets. ap (λ (shown : Shown). with_frame octets shown) (taken_kept now.setup now.live next k) ∙ holds.places octets;
       shows = by_shows holds.shows;
     }
       where
         by_shows : AreZeros plan now.live.cyclic.taken ⊎ (ComeFromOne first happened now.live.cyclic.taken × (now.live.stands ≡ true))
             → AreZeros plan next.cyclic.taken ⊎ (ComeFromOne first (happened ++ event ∷ []) next.cyclic.taken × (next.stands ≡ true))
-        by_shows (inl zeros) = inl (subst (λ (shown : Shown). AreZeros plan shown) (sym k.taken) zeros)
+        by_shows (inl zeros) = inl (subst (λ (shown : Shown). AreZeros plan shown) (sym (taken_kept now.setup now.live next k)) zeros)
         by_shows (inr came) =
-            inr (subst (λ (shown : Shown). ComeFromOne first (happened ++ event ∷ []) shown) (sym k.taken) (came_later happened event now.live.cyclic.taken came.0), k.stands came.1)
+            inr (subst (λ (shown : Shown). ComeFromOne first (happened ++ event ∷ []) shown) (sym (taken_kept now.setup now.live next k)) (came_later happened event now.live.cyclic.taken came.0), k.stands came.1)
 
     framed_size : (octets : List ℕ) → next.cyclic.taken ≡ with_frame octets now.live.cyclic.taken → next.cyclic.taken.data_length ≡ (no_inputs plan).data_length
     framed_size octets same = ap (λ (shown : Shown). shown.data_length) same ∙ holds.size
@@ -454,9 +467,9 @@ module _ (plan : Parts) (first : Controlling) where
     zeroed : IsZeroed now.setup now.live next → After
     zeroed z = record {
       setup = holds.setup;
-      size = framed_size _ z;
-      places = framed_places _ z;
-      shows = inl (inr (z ∙ (holds.places (replicate now.live.cyclic.taken.data_length 0) ∙ ap (λ (n : ℕ). with_frame (replicate n 0) (no_inputs plan)) holds.size)));
+      size = framed_size _ z.0;
+      places = framed_places _ z.0;
+      shows = inl (inr (z.0 ∙ (holds.places (replicate now.live.cyclic.taken.data_length 0) ∙ ap (λ (n : ℕ). with_frame (replicate n 0) (no_inputs plan)) holds.size)));
     }
 
     took : (bytes : List ℕ) (source : Mac) (frame_id : ℕ) (body : List ℕ) → event ≡ Frame (record { items = bytes }) → heard_of now.setup.plan.controller bytes ≡ Comes source frame_id body

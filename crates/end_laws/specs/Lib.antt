@@ -6,3 +6,4 @@ pub mod device
 pub mod controller
 pub mod answers
 pub mod log_data
+pub mod cyclic

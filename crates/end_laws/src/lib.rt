@@ -1,13 +1,15 @@
-//! What each end of a relation hears, sends and does at its turn, over any list of moves; the functions have no code.
+//! What each end of a relation hears, sends and does at its turn, over any list of moves; the functions have no code, but for a step of each
+//! end.
 //!
 //! `hearing` says what each end reads from the octets of a message, `sending` what each end sends and to whom, and `turns` what
 //! holds for a controller over any events. `both` has the two small machines whose laws are start-up and outputs; `device` and
-//! `controller` prove that the real ends refine them.
+//! `controller` prove that the real ends refine them. `cyclic` says which cyclic frames either end accepts and sends.
 #![tactic(auto)]
 
 mod answers;
 mod both;
 mod controller;
+mod cyclic;
 mod device;
 mod hearing;
 mod log_data;
@@ -17,6 +19,7 @@ mod turns;
 pub use answers::answers_are_one_datagram;
 pub use both::{outputs_are_given, start_up_is_kept};
 pub use controller::controller_goes_on;
+pub use cyclic::{cyclic_controller, cyclic_device};
 pub use device::{
     device_exchange_is_kept, device_goes_on, device_sends_what_it_owes, device_turns,
 };
