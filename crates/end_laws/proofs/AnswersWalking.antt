@@ -53,7 +53,7 @@ use Rattle.pn_values.specs.declared.identity.Identity.{Identity}
 use Rattle.connect_blocks.specs.declared.control.ControlBlock.{ControlBlock}
 use Rattle.cyclic_data.specs.declared.exchange.route.Route.{Route}
 use Rattle.pn_alarms.specs.declared.receiver.Taken.{Taken}
-use Rattle.rpc_core.specs.Cache.{Reported as Looked, new, again, old, looked, behind_reported, kept_more}
+use Rattle.rpc_core.specs.Cache.{Reported as Looked, new, again, old, looked, behind_reported}
 use Rattle.relations.specs.declared.farewell.Farewell.{Farewell}
 use Rattle.relations.specs.Timers.{Due, due_of}
 use Rattle.relations.specs.RelationState.{RelationState, uuid_of, flow_of, is_alarm_of, is_in_exchange}

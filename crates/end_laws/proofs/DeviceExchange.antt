@@ -12,7 +12,7 @@ use Rattle.dcp_core.specs.declared.request.Service.TheVariants as service
 use Rattle.dcp_core.specs.Request.{Asked}
 use Rattle.dcp_core.specs.Identify.{matches}
 use Rattle.dcp_core.specs.Set.{plan_of}
-use Rattle.rpc_core.specs.Cache.{Kept, Reported as Looked, new, again, old, looked}
+use Rattle.rpc_core.specs.Cache.{Kept, Reported as Looked, new, again, old}
 use Rattle.rpc_core.specs.Call.{Asked as Call}
 use Rattle.rpc_core.specs.declared.response.Status.{Status}
 use Rattle.rpc_core.specs.Response.{Answered as Response, is_done}
