@@ -438,6 +438,9 @@ module _ (setup : Setup) (station : Station) (mac : Mac) (before after : Control
   some_or one other value (inl same) e = sym same ∙ e
   some_or one other value (inr none) e = absurd (none_some value (sym none ∙ e))
 
+  next_after : next_of after ≡ call_number setup.plan after.live.access.calls
+  next_after = ap (λ (s : Setup). call_number s.plan after.live.access.calls) after_of
+
   -- with a bound that is the same or more
   module _ (bound : ℕ) (later : was.bound ≤ bound) (most : bound ≤ 4294967296)
       (waits : (request : RecordRequest) → after.live.access.waiting ≡ Some request → request.sequence < bound)
@@ -576,9 +579,6 @@ module _ (setup : Setup) (station : Station) (mac : Mac) (before after : Control
 
   next_before : next_of before ≡ number_before
   next_before = ap (λ (s : Setup). call_number s.plan before.live.access.calls) before_of
-
-  next_after : next_of after ≡ call_number setup.plan after.live.access.calls
-  next_after = ap (λ (s : Setup). call_number s.plan after.live.access.calls) after_of
 
   same_bound : was.bound ≤ was.bound
   same_bound = omega arith
