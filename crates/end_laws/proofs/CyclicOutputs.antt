@@ -88,7 +88,9 @@ module _ (data_read : DataIsRead) (old : Controlling) (sized : IsSized old) wher
   request_fine asks.Address cyclic = absurd (plain_alone live.device setup.plan.controller.mac sized.device sized.own 0xFEFD _ (omega arith) refl cyclic)
   request_fine asks.Connect cyclic = absurd (datagram_alone live.device setup.plan.controller.mac sized.device sized.own _ _ _ cyclic)
   request_fine (asks.Write number) cyclic = absurd (datagram_alone live.device setup.plan.controller.mac sized.device sized.own _ _ _ cyclic)
+  request_fine (asks.WriteAfter number tries) cyclic = absurd (datagram_alone live.device setup.plan.controller.mac sized.device sized.own _ _ _ cyclic)
   request_fine asks.PrmEnd cyclic = absurd (datagram_alone live.device setup.plan.controller.mac sized.device sized.own _ _ _ cyclic)
+  request_fine (asks.PrmEndAfter tries) cyclic = absurd (datagram_alone live.device setup.plan.controller.mac sized.device sized.own _ _ _ cyclic)
   request_fine (asks.Release sequence) cyclic = absurd (datagram_alone live.device setup.plan.controller.mac sized.device sized.own _ _ _ cyclic)
 
   requests_fine : (asked : Option Request) → AreFine (requests_of live.device asked)
