@@ -120,7 +120,7 @@ module _ {T Q : Type 0} (rules : Rules T Q) where
       there = there_last now.sent frame;
       steps = record {
         frames = [];
-        steps = record { moves = inr (inr (inr (inr (readies, refl)))); sent = tt };
+        steps = record { moves = inr (inr (inr (inr (inl (readies, refl))))); sent = tt };
         device = refl;
         behind = sym (append-nil (now.sent ++ frame ∷ []));
       };

@@ -152,7 +152,7 @@ module _ {T Q : Type 0} (rules : Rules T Q) where
       → (heard ≡ Readies → ⊥) → after ≡ Exchanges → ⊥
   not_exchanging grants skips count heard before after (inl same) not silent e = not (sym same ∙ e)
   not_exchanging grants skips count heard before after (inr (inl ended)) not silent e = let f = sym ended ∙ e in cc
-  not_exchanging grants skips count heard before after (inr (inr (inl asks))) not silent e = let f = sym asks ∙ e in cc
+  not_exchanging grants skips count heard before after (inr (inr (inl asks))) not silent e = let f = sym asks.1 ∙ e in cc
   not_exchanging grants skips count heard before after (inr (inr (inr (inl next)))) not silent e = by_next next.becomes
     where
       by_next : ((next.stage ≤ count) × (after ≡ Asking (next.stage + 1) next.tries)) ⊎ (after ≡ Waiting) → ⊥
