@@ -1,0 +1,36 @@
+-- One unit: the work after it is its frames.
+use Rattle.std.proofs.Common.{ℕ, Option, Some, drop, length, refl, ap, ◌∙◌, arith}
+use Rattle.device_station.specs.recorded.Record.{recalled}
+use Rattle.device_station.specs.contracts.port.device.DevicePort.{the_view}
+use Rattle.device_station.proofs.PortLeaps.{passed_at}
+use Rattle.device_station.proofs.PortStages.{free_in, steady_of}
+use Rattle.device_station.proofs.port.device.DevicePort.unit.Goals as goal
+
+pub returns-clause-ticks : goal.returns-clause-ticks
+returns-clause-ticks c =
+    let port = c.self.inside in
+    let free = free_in (the_view port) _ c.self.view_is c.requires in
+    let same = ap (λ f. drop port.calls_past (recalled f)) c.unit.ensures.flash ∙ free.calls in
+    rw (← c.self.view_is) (passed_at 1 (the_view port) c.unit.new.device port.stage _ _ _ free.booted free.calls free.frames free.booted same refl c.unit.ensures.passes)
+
+pub invariant_of-self : goal.invariant_of-self
+invariant_of-self c =
+    let port = c.self.inside in
+    let free = free_in (the_view port) _ c.self.view_is c.requires in (
+      omega (arith, ap (λ f. length (recalled f)) c.unit.ensures.flash),
+      omega arith,
+      steady_of port.stage _ _ _ free.booted c.unit.ensures.going,
+      (
+        omega (arith, c.due-due.ensures.value),
+        c.due-due.ensures.some,
+        free.booted,
+        ap (λ f. drop port.calls_past (recalled f)) c.unit.ensures.flash ∙ free.calls,
+      ),
+      λ exact. (ap (λ (n : ℕ). let o : Option ℕ = Some n in o) c.due-due.ensures.value, c.is_exact-self-inside.ensures exact),
+    )
+
+pub returns-clause-quiet : goal.returns-clause-quiet
+returns-clause-quiet c =
+    let port = c.self.inside in
+    let free = free_in (the_view port) _ c.self.view_is c.requires in
+    ap (λ f. drop port.calls_past (recalled f)) c.unit.ensures.flash ∙ free.calls
