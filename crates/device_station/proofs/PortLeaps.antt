@@ -1,13 +1,17 @@
 -- A port while units of time pass at once.
-use Rattle.std.proofs.Common.{◌≡◌, ◌+◌, ◌-◌, ◌<◌, ◌≤◌, ℕ, zero, suc, List, [], Option, Some, None, option_map, refl, sym, ap, subst, ◌∙◌, arith}
+use Rattle.std.proofs.Common.{◌≡◌, ◌+◌, ◌-◌, ◌<◌, ◌≤◌, ℕ, zero, suc, List, [], ◌∷◌, map, Option, Some, None, option_map, refl, sym, ap, subst, ◌∙◌, arith}
 use Rattle.std.specs.Prelude.{max}
+use Rattle.pn_values.specs.declared.identity.Identity.{Identity}
 use Rattle.flash_model.specs.Calls.{Call}
+use Rattle.device_frames.specs.Sendable.{AreSendable}
+use Rattle.device_frames.specs.Sent.{Sent, bytes_of}
 use Rattle.device_frames.specs.declared.event.Event.{Event}
 use Rattle.device_frames.specs.declared.note.Note.{Note}
 use Rattle.device_frames.specs.declared.note.Note.TheVariants.{Done}
 use Rattle.device_core.specs.Leaps.{live_due_in}
 use Rattle.device_core.specs.State as device
 use Rattle.device_core.specs.State.{Live}
+use Rattle.device_core.specs.Machine.{handled_step, heard_step, step_of}
 use Rattle.device_core.specs.Steps.{IsExactStep}
 use Rattle.device_station.specs.declared.recorded.flash.RecordedFlash.{RecordedFlash}
 use Rattle.device_station.specs.declared.port.stage.Stage.{Stage}
@@ -31,7 +35,7 @@ passed (suc units) old now frames booted no_calls no_frames passes = (
   Done,
   passed units old passes.0 [] booted no_calls no_frames passes.1,
   refl,
-  record { exact = passes.2.exact; records = passes.2.records; calls = sym passes.2.none; stage = refl },
+  record { exact = passes.2.exact; records = passes.2.records; calls = sym passes.2.none; sendable = λ other. absurd (other refl); stage = refl },
 )
 
 -- The same of a port whose stage and work are known.
@@ -43,6 +47,16 @@ passed_at units old now stage calls shown frames booted no_calls no_frames is_bo
     (subst (λ (c : List Call). Ticks units old (at now Booted c shown)) (sym none)
     (subst (λ (f : List (List ℕ)). Ticks units old (at now Booted [] f)) (sym same) (passed units old now frames booted no_calls no_frames passes)))
 
+-- ---- what is sent
+
+frames_sent : (station : device.Station) (live : Live) (event : Event) → (step_of [] station live event).frames ≡ map (bytes_of station.identity) (step_of [] station live event).sent
+unfolding heard_step handled_step
+frames_sent station live event = refl
+
+nothing_sent : (identity : Identity) (sent : List Sent) → [] ≡ map (bytes_of identity) sent → AreSendable identity sent
+nothing_sent identity [] none = tt
+nothing_sent identity (one ∷ more) none = cc none
+
 -- An event that made no call and sent nothing, at a port whose stage and work are known.
 pub stepped_at : (old : State) (event : Event) (said : Note) (now : device.State (RecordedFlash 4096)) (stage : Stage) (calls : List Call) (frames : List (List ℕ))
     → stage ≡ Booted → calls ≡ [] → frames ≡ [] → StepsAlone old.device event [] said now → Takes old event said (at now stage calls frames)
@@ -50,6 +64,7 @@ stepped_at old event said now stage calls frames booted none idle alone = record
   exact = subst (λ (f : List (List ℕ)). IsExactStep old.device event f said now) (sym idle) alone.exact;
   records = alone.records;
   calls = none ∙ sym alone.none;
+  sendable = λ other. nothing_sent old.device.station.identity _ (alone.exact.frames ∙ frames_sent old.device.station old.device.live event);
   stage = booted;
 }
 

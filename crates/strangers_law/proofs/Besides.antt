@@ -23,10 +23,10 @@ use Rattle.strangers_law.proofs.Controllers.{leaves_controllers}
 use Rattle.strangers_law.proofs.Floods.{step_left, step_silent}
 use Rattle.strangers_law.proofs.Sending.{DatagramsAreRead, PacketsAreRead, RealTimeIsRead, ResponsesAreRead}
 
-kept_of : (old new : Live) → IsLeft old new → IsKept old new
+pub kept_of : (old new : Live) → IsLeft old new → IsKept old new
 kept_of old new left = record { values = left.values; link = left.link; units = left.units; is_running = left.is_running; statuses = left.statuses; diagnoses = left.diagnoses; made = left.made; real = left.real }
 
-kept_both : (a b c : Live) → IsKept a b → IsKept b c → IsKept a c
+pub kept_both : (a b c : Live) → IsKept a b → IsKept b c → IsKept a c
 kept_both a b c one two = record {
   values = two.values ∙ one.values;
   link = two.link ∙ one.link;
@@ -41,19 +41,22 @@ kept_both a b c one two = record {
 kept_same : (a b : Live) → b ≡ a → IsKept a b
 kept_same a b is = subst (IsKept a) (sym is) (record { values = refl; link = refl; units = refl; is_running = refl; statuses = refl; diagnoses = refl; made = refl; real = refl })
 
+pub answers_as : (one other : Live) → one.rest.calls ≡ other.rest.calls → (sent : List (List ℕ)) → AreAnswers one sent → AreAnswers other sent
+answers_as one other is sent are = subst (λ calls. AllByRecursion (λ frame. IsNoExchange frame ⊎ IsIn frame (frames_stored calls)) sent) is are
+
 -- ---- the neighbour
 
-told_kept : (station : Station) (live : Live) (services : Serving) (news : Bool) → IsKept live (told_if news station live services).live
+pub told_kept : (station : Station) (live : Live) (services : Serving) (news : Bool) → IsKept live (told_if news station live services).live
 unfolding heard_of heard_step handled_step
 told_kept station live services true = record { values = refl; link = refl; units = refl; is_running = refl; statuses = refl; diagnoses = refl; made = refl; real = refl }
 told_kept station live services false = record { values = refl; link = refl; units = refl; is_running = refl; statuses = refl; diagnoses = refl; made = refl; real = refl }
 
-told_calls : (station : Station) (live : Live) (services : Serving) (news : Bool) → (told_if news station live services).live.rest.calls ≡ live.rest.calls
+pub told_calls : (station : Station) (live : Live) (services : Serving) (news : Bool) → (told_if news station live services).live.rest.calls ≡ live.rest.calls
 unfolding heard_of heard_step handled_step
 told_calls station live services true = refl
 told_calls station live services false = refl
 
-told_completing : (station : Station) (live : Live) (services : Serving) (news : Bool) (event : Event) → completing (told_if news station live services).services event ≡ completing services event
+pub told_completing : (station : Station) (live : Live) (services : Serving) (news : Bool) (event : Event) → completing (told_if news station live services).services event ≡ completing services event
 told_completing station live services true (Frame frame) = refl
 told_completing station live services false (Frame frame) = refl
 told_completing station live services news event = refl
@@ -70,11 +73,11 @@ dropped_undone NoRelation is e = cc
 dropped_undone StaleCycle is e = cc
 dropped_undone Refused is e = cc
 
-record IsCompleted (services : Serving) (note : Note) (event call : Event) : Type 0 where
-  dropped : is_dropped note ≡ true
-  is : completing services event ≡ Some call
+pub record IsCompleted (services : Serving) (note : Note) (event call : Event) : Type 0 where
+  pub dropped : is_dropped note ≡ true
+  pub is : completing services event ≡ Some call
 
-completed_by : (lost : Bool) (services : Serving) (note : Note) (event call : Event) → joined_by lost services note event ≡ Some call → IsCompleted services note event call
+pub completed_by : (lost : Bool) (services : Serving) (note : Note) (event call : Event) → joined_by lost services note event ≡ Some call → IsCompleted services note event call
 completed_by true services note (Frame frame) call e = absurd cc
 completed_by false services note (Frame frame) call e =
     cond_both (is_dropped note) _ _ (λ (found : Option Event). found ≡ Some call → IsCompleted services note (Frame frame) call)
@@ -132,9 +135,6 @@ module _ {F : Type 0} {S : ℕ} (as_flash : Flash F S) (real_time : RealTimeIsRe
       (subst (λ (s : Station). IsStrangeOrNone s link (completing takes.between.services event)) (sym station_is)
       (subst (IsStrangeOrNone old.device.station link) (sym same) strange.1)) in
       (kept_both old.device.live takes.between.device.live new.device.live between step.0, answers_as takes.between.device.live old.device.live calls frames.device step.1)
-    where
-      answers_as : (one other : Live) → one.rest.calls ≡ other.rest.calls → (sent : List (List ℕ)) → AreAnswers one sent → AreAnswers other sent
-      answers_as one other is sent are = subst (λ calls. AllByRecursion (λ frame. IsNoExchange frame ⊎ IsIn frame (frames_stored calls)) sent) is are
 
 pub leaves_served : LeavesServed
 leaves_served served event strange =

@@ -14,6 +14,7 @@ use Rattle.asked_records.specs.Questions.{operation_of}
 use Rattle.asked_records.specs.declared.question.Question.{Question}
 use Rattle.asked_records.specs.declared.status.Unanswered.TheVariants.{Late}
 use Rattle.device_frames.specs.Relation.{due_frames, where_due}
+use Rattle.device_frames.specs.Sendable.{AreSendable}
 use Rattle.device_frames.specs.Sent.{Sent, IdentifyAnswer, GetAnswer, SetAnswer, ArpReply, CallAnswer, Again, ReadyCall, PlugReadyCall, Ends, Exchanges, bytes_of}
 use Rattle.device_core.specs.Asking.{is_kept, is_new, late_in, late_sent, looked_if, question_replies, refused_reply}
 use Rattle.pn_alarms.specs.declared.abort.Abort.{Abort}
@@ -23,7 +24,7 @@ use Rattle.device_frames.specs.Heard.{heard_of}
 use Rattle.flash_model.specs.declared.flash.Flash.{Ghosts as Flash}
 use Rattle.device_frames.specs.declared.note.Note.{Note}
 use Rattle.device_core.specs.State.{Live, State, Station, counter_of, units_after}
-use Rattle.device_core.specs.Steps.{Steps}
+use Rattle.device_core.specs.Steps.{IsExactStep, Steps}
 use Rattle.device_core.specs.Handled.{counted_sent, handled, unit_rest, unit_sent}
 use Rattle.device_core.specs.Machine.{first_step, handled_step, heard_step, later_steps, run_of, step_of}
 use Rattle.strangers_law.specs.Device.{AreAnswers, IsLeft, IsStrange, RunsAsAlone, alone, but_answers, frames_alone, frames_of, is_unit, marks_of, unit_frames, units_in}
@@ -233,3 +234,18 @@ step_silent as_flash old new link event sent said real_time packets datagrams re
     subst (AreAnswers old.live) (sym (steps.frames ∙ step_frames steps.outcomes old.station old.live event))
     (answers_quiet old.station.identity real_time packets datagrams responses (stored_in old.live) (step_of steps.outcomes old.station old.live event).sent
     (strange_sent steps.outcomes old.station old.live link event exists strange) steps.sendable)
+
+-- The same of a step over a flash whose calls do not fail.
+pub exact_left : {F : Type 0} (old new : State F) (link : RelationState) (event : Event) (sent : List (List ℕ)) (said : Note)
+    → IsExactStep old event sent said new → old.live.rest.link ≡ Some link → IsStrange old.station link event → IsLeft old.live new.live
+exact_left old new link event sent said exact exists strange =
+    subst (λ (l : Live). IsLeft old.live l) (sym exact.live) (strange_left [] old.station old.live link event exists strange)
+
+pub exact_silent : {F : Type 0} (old new : State F) (link : RelationState) (event : Event) (sent : List (List ℕ)) (said : Note)
+    → RealTimeIsRead → PacketsAreRead → DatagramsAreRead → ResponsesAreRead
+    → IsExactStep old event sent said new → AreSendable old.station.identity (step_of [] old.station old.live event).sent
+    → old.live.rest.link ≡ Some link → IsStrange old.station link event → AreAnswers old.live sent
+exact_silent old new link event sent said real_time packets datagrams responses exact sendable exists strange =
+    subst (AreAnswers old.live) (sym (exact.frames ∙ step_frames [] old.station old.live event))
+    (answers_quiet old.station.identity real_time packets datagrams responses (stored_in old.live) (step_of [] old.station old.live event).sent
+    (strange_sent [] old.station old.live link event exists strange) sendable)

@@ -39,3 +39,4 @@ pub mod CallingSteps
 pub mod CallingHeard
 pub mod CallingDevice
 pub mod CallingLeft
+pub mod Ported

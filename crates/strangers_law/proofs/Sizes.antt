@@ -124,7 +124,7 @@ event_sizes identity services note (Frame bytes) sizes =
 event_sizes identity services note Tick sizes = record { ip = sizes.ip; near = sizes.near; calls = older_headed 1 services.pieces.calls sizes.calls }
 event_sizes identity services note event sizes = sizes
 
-beside_sizes : (identity : Identity) (services : Serving) (values : Values) (note : Note) (event : Event) → HaveSizes services → HaveSizes (beside identity services values note event).services
+pub beside_sizes : (identity : Identity) (services : Serving) (values : Values) (note : Note) (event : Event) → HaveSizes services → HaveSizes (beside identity services values note event).services
 beside_sizes identity services values note event sizes =
     cond_both values.is_lost _ _ (λ (b : Beside). HaveSizes b.services) (λ _. sizes)
     (λ _. observed_sizes (event_beside identity services note event).services values.running (event_sizes identity services note event sizes))

@@ -243,7 +243,7 @@ module _ (controlling : Controlling) (identity : Identity) (services : Serving) 
       all_both _ _ _ (ip_ticks _ services.ip sizes.ip (other_to controlling)) (lldp_ticks _ (announces services) (said_of services) sizes.near (other_to controlling))
   event_strange event other = tt
 
-  beside_strange : (values : Values) (event : Event) → IsNoPacketOf controlling services.ip.mac.octets event
+  pub beside_strange : (values : Values) (event : Event) → IsNoPacketOf controlling services.ip.mac.octets event
       → AreStrangeTo controlling (beside identity services values note event).sent
   beside_strange values event other =
       cond_both values.is_lost _ _ (λ (b : Beside). AreStrangeTo controlling b.sent) (λ _. tt) (λ _. event_strange event other)

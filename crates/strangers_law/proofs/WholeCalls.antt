@@ -96,7 +96,7 @@ module _ (frame : List ℕ) (it : IsWholeCall frame) where
         ∙ ap (λ a. or_else a (mapped_call services.ip identity (Some called))) no_ip ∙ ap (option_map _) (unmapped identity services.ip.address))
         (λ _. ap (λ a. or_else a None) no_ip))
 
-beside_silent : (identity : Identity) (services : Serving) (values : Values) (note : Note) (event : Event) → CallsWhole event → (beside identity services values note event).sent ≡ []
+pub beside_silent : (identity : Identity) (services : Serving) (values : Values) (note : Note) (event : Event) → CallsWhole event → (beside identity services values note event).sent ≡ []
 beside_silent identity services values note (Frame bytes) it =
     cond_both values.is_lost _ _ (λ (b : Beside). b.sent ≡ []) (λ _. refl)
     (λ _. cond_both (is_dropped note) _ _ (λ (o : Option (List ℕ)). ip.frames_in o ≡ []) (λ _. ap ip.frames_in (unanswered bytes.items it identity services)) (λ _. refl))

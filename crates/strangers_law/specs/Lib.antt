@@ -9,3 +9,4 @@ pub mod Runs
 pub mod CallingRuns
 pub mod Beside
 pub mod Calling
+pub mod Port

@@ -10,6 +10,7 @@ mod device;
 mod earlier;
 mod ends;
 mod exchanges;
+mod port;
 mod silence;
 mod stations;
 
@@ -20,5 +21,6 @@ pub use device::{step_device, strangers_leave_a_device};
 pub use earlier::later_relations_refuse_earlier_frames;
 pub use ends::strangers_leave_both_ends;
 pub use exchanges::callers_leave_exchanges;
+pub use port::strangers_leave_a_port;
 pub use silence::{pass_unit, silent_relations_end};
 pub use stations::strangers_leave_a_station;

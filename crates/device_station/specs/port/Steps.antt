@@ -3,6 +3,7 @@ use Rattle.std.specs.Prelude.{◌≡◌, ◌≢◌, ◌≤◌, ◌-◌, ℕ, zer
 use Rattle.flash_model.specs.declared.flash.Sector.{Sector}
 use Rattle.pn_values.specs.declared.settings.Settings.{Settings}
 use Rattle.settings_journal.specs.Image.{StartsWith, IsForeign, LeftByDevice}
+use Rattle.device_frames.specs.Sendable.{AreSendable}
 use Rattle.device_frames.specs.declared.event.Event.{Event}
 use Rattle.device_frames.specs.declared.event.Event.TheVariants.{Tick}
 use Rattle.device_core.specs.Cycle.{started}
@@ -19,11 +20,12 @@ use Rattle.device_station.specs.declared.port.stage.Stage.TheVariants.{Made, Boo
 use Rattle.device_station.specs.port.State.{State, IsIdle, barred, past_start}
 
 -- An event is one step of the device. The work after it is exactly what that step recorded, the flash calls of the
--- commands that it accepted, in order, and then its frames.
+-- commands that it accepted, in order, and then its frames. Each message that it sends at any event but a unit of time fits its frame.
 pub record Takes (old : State) (event : Event) (note : Note) (new : State) : Type 0 where
   pub exact : IsExactStep old.device event new.frames note new.device
   pub records : Records old.device (step_of [] old.device.station old.device.live event).accepted new.device
   pub calls : new.calls ≡ records.calls
+  pub sendable : event ≢ Tick → AreSendable old.device.station.identity (step_of [] old.device.station old.device.live event).sent
   pub stage : new.stage ≡ Booted
 
 -- This many units of time passed, one step each, and all work was fetched before each.

@@ -1,6 +1,7 @@
 // One step, and what it records for the host.
 ghost use Rattle.std.specs.Prelude.{◌≡◌, ◌≤◌, false, true, []};
 ghost use Rattle.device_core.specs.Machine.{step_of};
+ghost use Rattle.device_frames.specs.Sendable.{AreSendable};
 ghost use Rattle.device_frames.specs.declared.event.Event.TheVariants.{Application, Frame as Framed};
 ghost use Rattle.device_frames.specs.declared.local.Local.TheVariants.{Input};
 ghost use Rattle.device_core.specs.Leaps.{live_due_in};
@@ -24,6 +25,8 @@ pub fn step(
     requires { device.old.live.values.has_failed ≡ false }
     // The step is exactly that of the definition, with the frames in the outbox.
     ensures exact { IsExactStep device.old event.now (boxed outbox.new) result device.new }
+    // Each message that it sends fits its frame.
+    ensures sendable { AreSendable device.old.station.identity (step_of [] device.old.station device.old.live event.now).sent }
     // No commit has failed after the step.
     ensures going { device.new.live.values.has_failed ≡ false }
 

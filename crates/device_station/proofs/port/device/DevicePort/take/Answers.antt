@@ -23,6 +23,7 @@ returns c =
       exact = c.step-note.ensures.exact;
       records = does;
       calls = new_ones does.last.0 does.calls _ _ does.last.1 (past ∙ ap (λ r. length (calls_in r) - length does.calls) same);
+      sendable = λ other. c.step-note.ensures.sendable;
       stage = free.booted;
     })
 
