@@ -64,7 +64,7 @@ impl<F: Flash<S>, const S: usize> Device<F, S> {
 }
 
 // The units since the start, some units later.
-fn units_later(units: u64, more: u32) -> u64
+pub(crate) fn units_later(units: u64, more: u32) -> u64
     ensures value { result ≡ units_after more units }
     ensures fits { units < 18446744073709551616 }
 {

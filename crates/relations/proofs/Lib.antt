@@ -10,6 +10,9 @@ pub mod ExchangeRuns
 pub mod ExchangeInputs
 mod ExchangeShut
 pub mod ExchangeLeaps
+mod ExchangeCalm
+mod Steady
+mod SteadyKept
 mod DueLater
 mod DueReceived
 mod Changed

@@ -1,10 +1,10 @@
 -- Several units of time at once, before the next one with which something is due of one end.
-use Rattle.std.specs.Prelude.{◌≡◌, ◌<◌, ℕ, false, min, if◌then◌else◌}
+use Rattle.std.specs.Prelude.{◌≡◌, ◌<◌, ℕ, false, true, None, min, if◌then◌else◌}
 use Rattle.cyclic_data.specs.Leaps.{frame_due_in, over_in}
 use Rattle.cyclic_data.specs.Timing.{is_due}
 use Rattle.pn_alarms.specs.Leaps.{after, never}
 use Rattle.cyclic_data.specs.exchange.Cyclic.{Cyclic}
-use Rattle.cyclic_data.specs.exchange.Units.{cyclic_later, is_silent}
+use Rattle.cyclic_data.specs.exchange.Units.{Brought, cyclic_later, is_silent}
 
 -- The number of units up to and including the next one with which the data hold time is over. It runs while data is
 -- exchanged.
@@ -22,3 +22,7 @@ IsQuiet cyclic = (is_silent cyclic ≡ false) × (is_due cyclic.sending ≡ fals
 -- With each of the next units no frame is due, and the data hold time is not over.
 abbrev pub IsQuietFor : ℕ → Cyclic → Type 0
 IsQuietFor units cyclic = (before : ℕ) → before < units → IsQuiet (after cyclic_later before cyclic)
+
+-- A frame is sent, and nothing else is due.
+abbrev pub frame_alone : Brought
+frame_alone = record { ending = None; is_alarm = false; is_cyclic = true }
