@@ -97,16 +97,14 @@ pub quiet_for : (cyclic : Cyclic) (units : ℕ) → units < cyclic_due_in cyclic
 quiet_for cyclic units below before earlier =
     subst IsQuiet (sym (later_after cyclic before (omega (arith, below, earlier)))) (quiet_at cyclic before (omega (arith, below, earlier)))
 
-silent_by : (begun : Bool) (hearing : Hearing) (units : ℕ) → (if begun then over_in hearing else never) ≤ (if begun then over_in (hearing_by begun units hearing) else never) + units
-silent_by true hearing units = omega arith
-silent_by false hearing units = omega arith
-
 -- What is due comes nearer by these units, and the end of the data hold time by no more.
 pub frame_nearer : (sending : Sending) (units : ℕ) → units < frame_due_in sending → frame_due_in sending ≡ frame_due_in (units_later units sending) + units
 frame_nearer sending units below = omega (arith, below)
 
-pub silent_nearer : (cyclic : Cyclic) (units : ℕ) → silent_in cyclic ≤ (if cyclic.begun then over_in (hearing_by cyclic.begun units cyclic.hearing) else never) + units
-silent_nearer cyclic units = silent_by cyclic.begun cyclic.hearing units
+pub silent_later : (begun : Bool) (hearing : Hearing) (units : ℕ)
+    → (if begun then over_in hearing else never) ≤ (if begun then over_in (hearing_by begun units hearing) else never) + units
+silent_later true hearing units = omega arith
+silent_later false hearing units = omega arith
 
 -- ---- up to the next unit with which a frame is due
 

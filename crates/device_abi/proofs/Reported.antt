@@ -43,20 +43,15 @@ received_known status octets (Some value) real slot subslot inside holds asked a
     subst (λ o. IsReceivedAt (Some (status value)) (output_of real slot subslot o) asked answer reported) (sym holds) is
 
 -- Units that all passed, as they are reported.
-pub passed_all : (old new : Served) (asked reported : Op) (answer due work : ℕ) → barred_both old ≡ None → PassesBoth old asked.units 0 new → due ≡ due_both new → work ≡ waiting_both new
-    → answer ≡ 0 → reported ≡ record asked { units = 0; due = due; note = 0; work = work; confirmed = 0 } → IsTickWith Nothing old asked answer new reported
-passed_all old new asked reported answer due work free passes is waits done told = (
-  Ok (record { left = 0; due = due }),
+pub passed_all : (old new : Served) (asked reported : Op) (answer left due work : ℕ) → barred_both old ≡ None → PassesBoth old asked.units left new → due ≡ due_both new → work ≡ waiting_both new
+    → answer ≡ 0 → reported ≡ record asked { units = left; due = due; note = 0; work = work; confirmed = 0 } → IsTickWith Nothing old asked answer new reported
+passed_all old new asked reported answer left due work free passes is waits done told = (
+  Ok (record { left = left; due = due }),
   (free, passes, is),
   done,
-  told ∙ (ap (λ (n : ℕ). let op : Op = record asked { units = 0; due = n; note = 0; work = work; confirmed = 0 } in op) is
-      ∙ ap (λ (n : ℕ). let op : Op = record asked { units = 0; due = due_both new; note = 0; work = n; confirmed = 0 } in op) waits),
+  told ∙ (ap (λ (n : ℕ). let op : Op = record asked { units = left; due = n; note = 0; work = work; confirmed = 0 } in op) is
+      ∙ ap (λ (n : ℕ). let op : Op = record asked { units = left; due = due_both new; note = 0; work = n; confirmed = 0 } in op) waits),
 )
-
--- The kind of the next piece of work, if only frames of the port may be.
-pub waiting_only : (calls : List Call) (frames own : List (List ℕ)) → calls ≡ [] → own ≡ [] → (if has_some frames then 3 else 0) ≡ or_own (waiting calls frames) (waiting [] own)
-waiting_only calls [] own none no_own = rw none (rw no_own refl)
-waiting_only calls (frame ∷ frames) own none no_own = rw none refl
 
 -- Settings that are reported, or not.
 pub settings_told : (why : Option Refusal) (known held : Settings) (asked : Op) (answer : ℕ) (reported : Op) → (why ≡ None) × (held ≡ known) → answer ≡ 0

@@ -178,9 +178,20 @@ fn frame(port: &mut Port, op: &mut Op, given: &[u8]) -> u32
     hear(port, op, given)
 }
 
-// The same. It is part of both functions that handle a frame. Nearly always no alarm is open, and then none is confirmed.
+// The same. It is part of both functions that handle a frame. Most frames are cyclic data.
 #[inline(always)]
 fn hear(port: &mut Port, op: &mut Op, given: &[u8]) -> u32
+    ensures { IsEvent port.old (Framed (record { items = take 1519 given.now })) op.old result port.new op.new }
+{
+    if port.take_cyclic(given) {
+        return silent(op);
+    }
+    hear_other(port, op, given)
+}
+
+// Any frame.
+#[inline(never)]
+fn hear_other(port: &mut Port, op: &mut Op, given: &[u8]) -> u32
     ensures { IsEvent port.old (Framed (record { items = take 1519 given.now })) op.old result port.new op.new }
 {
     if is_open(port) {
@@ -205,14 +216,11 @@ fn hear_open(port: &mut Port, op: &mut Op, given: &[u8]) -> u32
 }
 
 // A frame, and that nothing became of an open alarm.
-#[inline(always)]
 fn hear_any(port: &mut Port, op: &mut Op, given: &[u8]) -> u32
     ensures { IsEventWith Nothing port.old (Framed (record { items = take 1519 given.now })) op.old result port.new op.new }
 {
-    match port.frame(given) {
-        Some(outcome) => noted(outcome, port, op),
-        None => silent(op),
-    }
+    let outcome = port.hear(given);
+    noted(outcome, port, op)
 }
 
 // Reports what became of the open alarm.
@@ -415,18 +423,37 @@ fn noted(outcome: Result<Note, Refusal>, port: &Port, op: &mut Op) -> u32
     }
 }
 
-// Units of time. Nearly always no alarm is open, and then none is given up.
+// Units of time. Most bring nothing.
 #[inline(never)]
 fn tick(port: &mut Port, op: &mut Op) -> u32
+    ensures { IsTick port.old op.old result port.new op.new }
+{
+    match port.glide(op.units) {
+        Some(due) => tell_passed(op, due, 0, 0),
+        None => tick_more(port, op),
+    }
+}
+
+// Units of time that may bring something, mostly inputs alone.
+#[inline(never)]
+fn tick_more(port: &mut Port, op: &mut Op) -> u32
+    ensures { IsTick port.old op.old result port.new op.new }
+{
+    match port.send(op.units) {
+        Some(passed) => tell_passed(op, passed.due, passed.left, 3),
+        None => tick_any(port, op),
+    }
+}
+
+// Any units of time.
+#[inline(never)]
+fn tick_any(port: &mut Port, op: &mut Op) -> u32
     ensures { IsTick port.old op.old result port.new op.new }
 {
     if is_open(port) {
         return tick_open(port, op);
     }
-    match port.skip(op.units) {
-        Some(due) => tell_passed(op, due, 0, 0),
-        None => tick_more(port, op),
-    }
+    tick_all(port, op)
 }
 
 // The same while an alarm is open.
@@ -435,7 +462,7 @@ fn tick_open(port: &mut Port, op: &mut Op) -> u32
     requires { is_open_in port.old ≡ true }
     ensures { IsTick port.old op.old result port.new op.new }
 {
-    let answer = tick_more(port, op);
+    let answer = tick_all(port, op);
     if is_open(port) {
         return answer;
     }
@@ -443,24 +470,7 @@ fn tick_open(port: &mut Port, op: &mut Op) -> u32
     answer
 }
 
-// Units of time that may bring something, and that nothing became of an open alarm.
-#[inline(never)]
-fn tick_more(port: &mut Port, op: &mut Op) -> u32
-    ensures { IsTickWith Nothing port.old op.old result port.new op.new }
-{
-    if op.units != 1 {
-        return tick_all(port, op);
-    }
-    match port.unit() {
-        Some(due) => {
-            let work = if port.has_frames() { 3 } else { 0 };
-            tell_passed(op, due, 0, work)
-        }
-        None => tick_all(port, op),
-    }
-}
-
-// The same of any units.
+// The same, and that nothing became of an open alarm.
 #[inline(never)]
 fn tick_all(port: &mut Port, op: &mut Op) -> u32
     ensures { IsTickWith Nothing port.old op.old result port.new op.new }
@@ -505,6 +515,20 @@ pub fn hand_out<'a>(port: &'a mut Port, op: &mut Op, answer: &mut u32) -> &'a [u
     ensures* { sem 𝓛 (follows_so Row Row port.entry.ghost_name none (λ _ _. ⊤)
         (λ new. HandsOut (closed port.old.port.stage) port.old op.old answer.new result.now new op.new)) }
 {
+    // Most frames are those of inputs.
+    if port.sends() {
+        *answer = 0;
+        return hand_out_only(port, op);
+    }
+    hand_out_any(port, op, answer)
+}
+
+// Any piece of work.
+#[inline(never)]
+fn hand_out_any<'a>(port: &'a mut Port, op: &mut Op, answer: &mut u32) -> &'a [u8]
+    ensures* { sem 𝓛 (follows_so Row Row port.entry.ghost_name none (λ _ _. ⊤)
+        (λ new. HandsOut (closed port.old.port.stage) port.old op.old answer.new result.now new op.new)) }
+{
     if let Some(refusal) = port.closed() {
         *answer = refusal.number();
         return &[];
@@ -514,11 +538,7 @@ pub fn hand_out<'a>(port: &'a mut Port, op: &mut Op, answer: &mut u32) -> &'a [u
         return hand_out_call(port, op);
     }
     if port.has_frames() {
-        return if port.is_calm() {
-            hand_out_only(port, op)
-        } else {
-            hand_out_frame(port, op)
-        };
+        return hand_out_frame(port, op);
     }
     hand_out_own(port, op)
 }

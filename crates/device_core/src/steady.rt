@@ -1,5 +1,5 @@
 // Units of time while only the timers of an exchange run, as they nearly always do.
-ghost use Rattle.std.specs.Prelude.{◌≡◌, ◌<◌, ◌≤◌};
+ghost use Rattle.std.specs.Prelude.{◌≡◌, ◌<◌, length};
 ghost use Rattle.frame_codec.specs.Outbox.{boxed};
 ghost use Rattle.device_core.specs.Leaps.{NoneSends, OnlyTheLastSends, live_due_in, ticks_of};
 ghost use Rattle.device_core.specs.Steady.{IsSteadyAt};
@@ -33,6 +33,7 @@ impl<F: Flash<S>, const S: usize> Device<F, S> {
         ensures none { NoneSends units self.old.station self.old.live }
         ensures steady { IsSteadyAt steady.new self.new.live }
         ensures due { live_due_in self.new.live ≡ steady.new.inputs }
+        ensures before { live_due_in self.old.live ≡ steady.old.inputs }
     {
         self.units = units_later(self.units, units);
         self.relation.pass_steady(units, steady);
@@ -47,6 +48,7 @@ impl<F: Flash<S>, const S: usize> Device<F, S> {
         ensures device { self.new ≡ record self.old { live = (ticks_of steady.old.inputs self.old.station self.old.live).live } }
         ensures frames { boxed outbox.new ≡ (ticks_of steady.old.inputs self.old.station self.old.live).frames }
         ensures last { OnlyTheLastSends steady.old.inputs self.old.station self.old.live }
+        ensures one { length (boxed outbox.new) ≡ 1 }
         ensures steady { 0 < steady.new.inputs → IsSteadyAt steady.new self.new.live }
         ensures due { 0 < steady.new.inputs → live_due_in self.new.live ≡ steady.new.inputs }
     {

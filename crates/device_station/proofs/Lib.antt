@@ -18,8 +18,8 @@ pub mod RecordingPlaced
 pub mod RecordingOneStep
 pub mod RecordingLeaps
 pub mod PortCounts
-pub mod PortExact
 pub mod PortLeaps
+mod PortSteady
 pub mod PortLeft
 pub mod PortOwn
 pub mod PortStages

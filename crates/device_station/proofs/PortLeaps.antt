@@ -1,18 +1,18 @@
 -- A port while units of time pass at once.
 use Rattle.std.proofs.Common.{◌≡◌, ◌+◌, ◌-◌, ◌<◌, ◌≤◌, ℕ, zero, suc, List, [], Option, Some, None, option_map, refl, sym, ap, subst, ◌∙◌, arith}
-use Rattle.std.specs.Prelude.{max}
 use Rattle.flash_model.specs.Calls.{Call}
 use Rattle.device_frames.specs.declared.event.Event.{Event}
 use Rattle.device_frames.specs.declared.note.Note.{Note}
 use Rattle.device_frames.specs.declared.note.Note.TheVariants.{Done}
-use Rattle.device_core.specs.Leaps.{live_due_in}
 use Rattle.device_core.specs.State as device
 use Rattle.device_core.specs.State.{Live}
 use Rattle.device_core.specs.Steps.{IsExactStep}
 use Rattle.device_station.specs.declared.recorded.flash.RecordedFlash.{RecordedFlash}
 use Rattle.device_station.specs.declared.port.stage.Stage.{Stage}
 use Rattle.device_station.specs.declared.port.stage.Stage.TheVariants.{Booted}
-use Rattle.device_station.specs.port.State.{State, IsCounted}
+use Rattle.device_station.specs.port.State.{State, IsKnown}
+use Rattle.device_core.specs.Steady.{IsSteadyAt}
+use Rattle.relations.specs.declared.steady.Steady.{Steady}
 use Rattle.device_station.specs.port.Steps.{Takes, Ticks}
 use Rattle.device_station.specs.recording.Leaps.{PassesAll, StepsAlone}
 
@@ -53,17 +53,14 @@ stepped_at old event said now stage calls frames booted none idle alone = record
   stage = booted;
 }
 
--- Nothing is due before that many units: if what is due is only put off, and some units later.
-pub counted_later : (due : Option ℕ) (old new : Live) (stage : Stage) (calls left : List Call) → live_due_in old ≤ live_due_in new → left ≡ []
-    → IsCounted due old stage calls → IsCounted due new stage left
-counted_later None old new stage calls left later none counted = tt
-counted_later (Some due) old new stage calls left later none counted = (omega (arith, counted.0, later), counted.1, counted.2, none)
+-- What is known stays known if the device stays so, and no flash call remains.
+pub known_later : (steady : Steady) (old new : Live) (stage : Stage) (calls left : List Call) → ((s : Steady) → IsSteadyAt s old → IsSteadyAt s new) → left ≡ []
+    → IsKnown steady old stage calls → IsKnown steady new stage left
+known_later steady old new stage calls left later none known is = (later steady (known is).0, (known is).1, none)
 
-pub counted_nearer : (due now : Option ℕ) (units : ℕ) (old new : Live) (stage : Stage) (calls left : List Call) → now ≡ option_map (λ (before : ℕ). max 1 (before - units)) due
-    → units < live_due_in old → live_due_in old ≤ live_due_in new + units → left ≡ [] → IsCounted due old stage calls → IsCounted now new stage left
-counted_nearer None now units old new stage calls left is below nearer none counted = subst (λ (d : Option ℕ). IsCounted d new stage left) (sym is) tt
-counted_nearer (Some due) now units old new stage calls left is below nearer none counted =
-    subst (λ (d : Option ℕ). IsCounted d new stage left) (sym is) (omega (arith, counted.0, below, nearer), omega arith, counted.2, none)
+-- Nothing is known.
+pub unknown : (steady : Steady) (live : Live) (stage : Stage) (calls : List Call) → steady.inputs ≡ 0 → IsKnown steady live stage calls
+unknown steady live stage calls none some = absurd (omega (arith, none, some))
 
 -- Units that passed after others.
 pub ticks_on : (units more : ℕ) (old between new : State) → Ticks units old between → Ticks more between new → Ticks (more + units) old new

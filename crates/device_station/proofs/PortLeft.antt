@@ -9,7 +9,8 @@ use Rattle.flash_model.specs.declared.flash.Sector.TheVariants.{First}
 use Rattle.device_station.specs.declared.port.stage.Stage.{Stage}
 use Rattle.device_station.specs.declared.port.stage.Stage.TheVariants.{Made, Booted, Lost}
 use Rattle.device_core.specs.State.{Live}
-use Rattle.device_station.specs.port.State.{State, IsCounted, IsSteady, has_some, has_work, advanced_by}
+use Rattle.relations.specs.declared.steady.Steady.{Steady}
+use Rattle.device_station.specs.port.State.{State, IsKnown, IsSteady, has_some, has_work, advanced_by}
 
 -- Whether any item remains after a position.
 pub is_left : {T : Type 0} (n : ℕ) (all : List T) → n < length all → has_some (drop n all) ≡ true
@@ -78,10 +79,9 @@ steady_frame Lost has_failed m calls frames some steady = absurd (none_there m f
 
 -- ---- what is due is known only if no call remains
 
-pub counted_call : (due : Option ℕ) (live : Live) (stage : Stage) (n : ℕ) (calls : List Call) → n < length calls
-    → IsCounted due live stage (drop n calls) → IsCounted due live stage (drop (n + 1) calls)
-counted_call None live stage n calls some counted = tt
-counted_call (Some due) live stage n calls some counted = absurd (none_there n calls some counted.3)
+pub known_call : (steady : Steady) (live : Live) (stage : Stage) (n : ℕ) (calls : List Call) → n < length calls
+    → IsKnown steady live stage (drop n calls) → IsKnown steady live stage (drop (n + 1) calls)
+known_call steady live stage n calls some known is = absurd (none_there n calls some (known is).2)
 
 pub no_calls : (calls : List Call) → has_some calls ≡ false → calls ≡ []
 no_calls [] none = refl

@@ -1,5 +1,5 @@
 -- Why no event is accepted, with the services beside the device.
-use Rattle.std.proofs.Common.{◌≡◌, ◌++◌, ℕ, false, List, [], ◌∷◌, None, refl, sym, ap, ◌∙◌}
+use Rattle.std.proofs.Common.{◌≡◌, ◌++◌, ℕ, true, false, List, [], ◌∷◌, None, refl, sym, ap, ◌∙◌}
 use Rattle.std.proofs.lemmas.List.{append-nil}
 use Rattle.flash_model.specs.Calls.{Call}
 use Rattle.device_station.specs.port.State.{barred, barred_by, has_some, has_work, waiting}
@@ -38,6 +38,12 @@ nothing_waits [] [] [] a b d = refl
 nothing_waits [] [] (one ∷ own) a b d = cc (ap has_some d)
 nothing_waits [] (frame ∷ frames) own a b d = cc (ap has_some b)
 nothing_waits (call ∷ calls) frames own a b d = cc (ap has_some a)
+
+-- Only frames of the device wait.
+pub only_frame : (calls : List Call) (frames own : List (List ℕ)) → calls ≡ [] → has_some frames ≡ true → own ≡ [] → or_own (waiting calls frames) (waiting [] own) ≡ 3
+only_frame [] [] own a b d = cc b
+only_frame [] (frame ∷ frames) own a b d = refl
+only_frame (call ∷ calls) frames own a b d = cc (ap has_some a)
 
 pub waits_free : (served : Served) → barred_both served ≡ None → waiting_both served ≡ 0
 waits_free served free = let all = free_fetched served free in nothing_waits served.port.calls served.port.frames served.frames all.0.0 all.0.1 all.1

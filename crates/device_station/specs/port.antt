@@ -1,4 +1,3 @@
-pub mod Exact
 pub mod Own
 pub mod Pace
 pub mod Refusals

@@ -4,5 +4,5 @@
 mod recorded_leap;
 mod recorded_step;
 
-pub use recorded_leap::{leap, skip, unit};
+pub use recorded_leap::{leap, leap_steady, skip, skip_steady};
 pub use recorded_step::{step, step_cyclic, step_input};

@@ -19,6 +19,7 @@ use Rattle.relations.specs.exchange.Leaps.{BringNothing, flow_due_in}
 use Rattle.relations.specs.exchange.Units.{flow_later, repeated_of, tick_of}
 use Rattle.relations.specs.Leaps.{NoPlugDueFor, NothingDueFor, due_within, link_due_in, plug_again_in}
 use Rattle.relations.specs.RelationState.{RelationState, link_in}
+use Rattle.relations.specs.Phases.{with_flow}
 use Rattle.relations.specs.Runs.{unit_over, units_over}
 use Rattle.relations.specs.Steady.{IsSteady, Runs, RunsIn, inputs_alone, steady_of}
 use Rattle.relations.specs.Timers.{Due, due_by, due_of, ending_of}
@@ -169,3 +170,65 @@ pub settles : (link : RelationState) (new : Flow) (steady : Steady) → steady �
     → IsSteady steady (Some (exchanging_with link new))
 settles link new steady is few answered calm some =
     settles_by link new steady (nat_lt (silent_in new.cyclic) (frame_due_in new.cyclic.sending)) refl is few answered calm some
+
+-- ---- of a relation that is steady
+
+at_exchange : (link : RelationState) → link.phase ≡ Exchanging → exchanging link ≡ link
+at_exchange link is = ap (λ (p : Phase). let l : RelationState = record link { phase = p } in l) (sym is)
+
+pub steady_due : (steady : Steady) (link : RelationState) → IsSteady steady (Some link) → due_within (Some link) ≡ steady.inputs
+steady_due steady link is =
+    let same = at_exchange link is.runs.exchanging in
+    subst (λ (l : RelationState). link_due_in l ≡ steady.inputs) same (runs_due steady link is.first (subst (Runs steady) (sym same) is.runs))
+
+below_due : (steady : Steady) (link : RelationState) (units : ℕ) → IsSteady steady (Some link) → units < steady.inputs → units < link_due_in (exchanging link)
+below_due steady link units is few =
+    let same = at_exchange link is.runs.exchanging in
+    let due = runs_due steady link is.first (subst (Runs steady) (sym same) is.runs) in
+    omega (arith, few, due)
+
+pub steady_passes : (steady : Steady) (link : RelationState) (units : ℕ) (new : Flow) → IsSteady steady (Some link) → units < steady.inputs → BringNothing units link.flow
+    → new ≡ after flow_later units link.flow → units_over units (Some link) ≡ Some (with_flow new link)
+steady_passes steady link units new is few none later =
+    subst (λ (l : RelationState). units_over units (Some l) ≡ Some (with_flow new l)) (at_exchange link is.runs.exchanging)
+    (passes link units new (below_due steady link units is few) none is.runs.answered later)
+
+pub steady_nothing : (steady : Steady) (link : RelationState) (units : ℕ) → IsSteady steady (Some link) → units < steady.inputs → BringNothing units link.flow → NothingDueFor units (Some link)
+steady_nothing steady link units is few none =
+    subst (λ (l : RelationState). NothingDueFor units (Some l)) (at_exchange link is.runs.exchanging)
+    (passes_nothing link units (below_due steady link units is few) none is.runs.answered)
+
+pub steady_later : (steady later : Steady) (link : RelationState) (units : ℕ) (new : Flow) → IsSteady steady (Some link) → units < steady.inputs → later.inputs ≡ steady.inputs - units → later.held ≡ steady.held - units
+    → IsCalm new → frame_due_in link.flow.cyclic.sending ≡ frame_due_in new.cyclic.sending + units → silent_in link.flow.cyclic ≤ silent_in new.cyclic + units → IsSteady later (Some (with_flow new link))
+steady_later steady later link units new is few inputs held calm frame silent =
+    let same = at_exchange link is.runs.exchanging in
+    subst (λ (l : RelationState). IsSteady later (Some (with_flow new l))) same
+    (runs_later steady later link units new few is.first (subst (Runs steady) (sym same) is.runs) inputs held calm frame silent)
+
+at_most : (steady : Steady) (link : RelationState) → IsSteady steady (Some link) → steady.inputs ≤ link_due_in (exchanging link)
+at_most steady link is =
+    let same = at_exchange link is.runs.exchanging in
+    let due = runs_due steady link is.first (subst (Runs steady) (sym same) is.runs) in
+    omega (arith, due)
+
+pub steady_sends : (steady : Steady) (link : RelationState) → IsSteady steady (Some link) → 0 < steady.inputs → BringNothing (steady.inputs - 1) link.flow
+    → tick_of (after flow_later (steady.inputs - 1) link.flow) ≡ frame_alone → due_of (units_over (steady.inputs - 1) (Some link)) ≡ inputs_alone
+steady_sends steady link is some none last =
+    subst (λ (l : RelationState). due_of (units_over (steady.inputs - 1) (Some l)) ≡ inputs_alone) (at_exchange link is.runs.exchanging)
+    (sends link steady.inputs some (at_most steady link is) none is.runs.answered last)
+
+pub steady_sent : (steady : Steady) (link : RelationState) (new : Flow) → IsSteady steady (Some link) → 0 < steady.inputs → BringNothing (steady.inputs - 1) link.flow
+    → tick_of (after flow_later (steady.inputs - 1) link.flow) ≡ frame_alone → new ≡ after flow_later steady.inputs link.flow
+    → units_over steady.inputs (Some link) ≡ Some (with_flow new link)
+steady_sent steady link new is some none last later =
+    subst (λ (l : RelationState). units_over steady.inputs (Some l) ≡ Some (with_flow new l)) (at_exchange link is.runs.exchanging)
+    (sent link steady.inputs new some (at_most steady link is) none is.runs.answered last later)
+
+pub steady_settles : (link : RelationState) (new : Flow) (steady : Steady) → link.phase ≡ Exchanging → steady ≡ steady_of new → steady.inputs ≤ 8388608 → link.plugs.calls.standing ≡ None
+    → IsCalm new → 0 < steady.inputs → IsSteady steady (Some (with_flow new link))
+steady_settles link new steady phase is few answered calm some =
+    subst (λ (l : RelationState). IsSteady steady (Some (with_flow new l))) (at_exchange link phase) (settles link new steady is few answered calm some)
+
+-- Inputs that are due before the data hold time is over are those of a relation.
+pub no_relation : (steady : Steady) → IsSteady steady None → steady.inputs < steady.held → steady.held ≤ never → ⊥
+no_relation steady is first most = let none = is.runs in omega (arith, none, first, most)

@@ -1,6 +1,6 @@
 //! While only the timers of an exchange run, as they nearly always do: that of the inputs, and the data hold time. Then a unit of
 //! time asks no other timer.
-ghost use Rattle.std.specs.Prelude.{◌≡◌, ◌-◌, ◌<◌, ◌≤◌};
+ghost use Rattle.std.specs.Prelude.{◌≡◌, ◌-◌, ◌<◌, ◌≤◌, IsSome};
 ghost use Rattle.relations.specs.Leaps.{NothingDueFor, due_within};
 ghost use Rattle.relations.specs.Runs.{units_over};
 ghost use Rattle.relations.specs.Steady.{IsSteady, inputs_alone, steady_of};
@@ -60,6 +60,7 @@ impl Relation {
         ensures nothing { NothingDueFor units self.old }
         ensures steady { IsSteady steady.new self.new }
         ensures due { due_within self.new ≡ steady.new.inputs }
+        ensures before { due_within self.old ≡ steady.old.inputs }
     {
         let Some(_) = self.phase else {
             return;
@@ -79,6 +80,7 @@ impl Relation {
         ensures nothing { NothingDueFor (steady.old.inputs - 1) self.old }
         ensures last { due_of (units_over (steady.old.inputs - 1) self.old) ≡ inputs_alone }
         ensures some { 0 < steady.old.inputs }
+        ensures stands { IsSome self.new }
         ensures steady { 0 < steady.new.inputs → IsSteady steady.new self.new }
         ensures due { 0 < steady.new.inputs → due_within self.new ≡ steady.new.inputs }
     {

@@ -1,7 +1,7 @@
 -- Several units of time at once, before the next one with which something is due of one end.
 use Rattle.std.specs.Prelude.{◌≡◌, ◌<◌, ℕ, false, true, None, min, if◌then◌else◌}
-use Rattle.cyclic_data.specs.Leaps.{frame_due_in, over_in}
-use Rattle.cyclic_data.specs.Timing.{is_due}
+use Rattle.cyclic_data.specs.Leaps.{frame_due_in, held_for, over_in}
+use Rattle.cyclic_data.specs.Timing.{Hearing, is_due}
 use Rattle.pn_alarms.specs.Leaps.{after, never}
 use Rattle.cyclic_data.specs.exchange.Cyclic.{Cyclic}
 use Rattle.cyclic_data.specs.exchange.Units.{Brought, cyclic_later, is_silent}
@@ -10,6 +10,10 @@ use Rattle.cyclic_data.specs.exchange.Units.{Brought, cyclic_later, is_silent}
 -- exchanged.
 abbrev pub silent_in : Cyclic → ℕ
 silent_in cyclic = if cyclic.begun then over_in cyclic.hearing else never
+
+-- The consumer several units later, before the one with which the data hold time is over.
+abbrev pub waited_for : ℕ → Cyclic → Hearing
+waited_for units cyclic = if cyclic.begun then held_for units cyclic.hearing else cyclic.hearing
 
 -- The number of units up to and including the next one with which a frame is due or the data hold time is over.
 abbrev pub cyclic_due_in : Cyclic → ℕ

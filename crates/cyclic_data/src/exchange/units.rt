@@ -4,7 +4,7 @@ ghost use Rattle.pn_alarms.specs.Leaps.{after};
 ghost use Rattle.pn_alarms.specs.declared.repeats.Due.TheVariants.{Nothing};
 ghost use Rattle.cyclic_data.specs.Leaps.{frame_due_in};
 ghost use Rattle.cyclic_data.specs.exchange.Units.{cyclic_later, tick_of};
-ghost use Rattle.cyclic_data.specs.exchange.Leaps.{IsQuietFor, cyclic_due_in, frame_alone, silent_in};
+ghost use Rattle.cyclic_data.specs.exchange.Leaps.{IsQuietFor, cyclic_due_in, frame_alone, silent_in, waited_for};
 
 use crate::exchange::exchange::CyclicExchange;
 use pn_alarms::{Abort, Due, NEVER};
@@ -166,7 +166,7 @@ impl CyclicExchange {
         ensures some { 0 < result }
         ensures few { result ≤ 8388608 }
     {
-        self.provider.due_in().min(self.silent_in())
+        self.frame_in().min(self.silent_in())
     }
 
     /// The number of units up to and including the next one with which a frame is due.
@@ -204,10 +204,18 @@ impl CyclicExchange {
         ensures held { silent_in self.old ≤ silent_in self.new + units }
     {
         self.provider.pass(units);
-        if !self.begun {
-            return;
+        self.wait(units);
+    }
+
+    /// Counts several units of the data hold time, which runs while data is exchanged. It may not be over with any of them.
+    #[inline(always)]
+    fn wait(&mut self, units: u32)
+        requires { units < silent_in self.old }
+        ensures { self.new ≡ record self.old { hearing = waited_for units self.old } }
+    {
+        if self.begun {
+            self.consumer.pass(units);
         }
-        self.consumer.pass(units);
     }
 
     /// Counts several units of 31.25 microseconds at once, up to the next one with which a frame is due. With none of them may
@@ -222,11 +230,7 @@ impl CyclicExchange {
         // Only a frame is due with the last one.
         ensures last { tick_of (after cyclic_later (units - 1) self.old) Nothing ≡ frame_alone }
     {
-        // Using a field makes its invariant known: some units remain of an interval.
         self.provider.restart();
-        if !self.begun {
-            return;
-        }
-        self.consumer.pass(units);
+        self.wait(units);
     }
 }

@@ -8,6 +8,7 @@ use Rattle.device_frames.specs.declared.event.Event.{Event}
 use Rattle.device_frames.specs.declared.event.Event.TheVariants.{Frame, Call, Tick, Neighbour, Application}
 use Rattle.device_frames.specs.declared.note.Note.{Note}
 use Rattle.device_frames.specs.declared.note.Note.TheVariants.{Done}
+use Rattle.device_core.specs.OpenAlarm.{has_open_alarm}
 use Rattle.device_station.specs.Beside.{beside, has_any, is_dropped, joined_beside}
 use Rattle.device_station.specs.Leaps.{services_due}
 use Rattle.device_station.specs.Serving.{Serving, disputes, news_in, observed, serving_at, told}
@@ -106,11 +107,12 @@ abbrev pub PassesBothOrNot : Served → ℕ → Result Passed Refusal → Served
 PassesBothOrNot old units (Ok passed) new = (barred_both old ≡ None) × PassesBoth old units passed.left new × (passed.due ≡ due_both new)
 PassesBothOrNot old units (Err refusal) new = (barred_both old ≡ Some refusal) × (new ≡ old)
 
--- Units pass that bring nothing, fewer than are due, with what is due then, or none passes and nothing changes.
+-- Units pass that bring nothing, fewer than are due, with what is due then, or none passes and nothing changes. No process alarm is open.
 abbrev pub SkipsOrNot : Served → ℕ → Option ℕ → Served → Type 0
 SkipsOrNot old units None new = new ≡ old
 SkipsOrNot old units (Some due) new =
     (barred_both old ≡ None) × PassesBoth old units 0 new × (due ≡ due_both new) × (waiting_both new ≡ 0) × (units < due_both old) × (barred_both new ≡ None)
+    × (has_open_alarm old.port.device.live.rest.link ≡ false)
 
 -- Units pass that bring nothing, all except the remaining ones: fewer than are due. Some remain beside services only if the next one brings
 -- something, or if these have something to see or to tell first.
@@ -127,11 +129,12 @@ abbrev pub QuietOrNot : Served → ℕ → Result ℕ Refusal → Served → Typ
 QuietOrNot old units (Ok left) new = (barred_both old ≡ None) × Quiet old units left new
 QuietOrNot old units (Err refusal) new = (barred_both old ≡ Some refusal) × (new ≡ old)
 
--- One unit passes, after which at most frames of the device remain, with what is due then; or none passes and nothing changes.
-abbrev pub PassesOneOrNot : Served → Option ℕ → Served → Type 0
-PassesOneOrNot old None new = new ≡ old
-PassesOneOrNot old (Some due) new =
-    (barred_both old ≡ None) × PassesBoth old 1 0 new × (due ≡ due_both new) × (new.port.calls ≡ []) × (new.frames ≡ [])
+-- Units pass up to the first that sends inputs, with what is due then, or none passes and nothing changes. No process alarm is open.
+abbrev pub SendsBothOrNot : Served → ℕ → Option Passed → Served → Type 0
+SendsBothOrNot old units None new = new ≡ old
+SendsBothOrNot old units (Some passed) new =
+    (barred_both old ≡ None) × PassesBoth old units passed.left new × (passed.due ≡ due_both new) × (waiting_both new ≡ 3)
+    × (has_open_alarm old.port.device.live.rest.link ≡ false)
 
 -- A frame is accepted in silence, or handled, or refused, and then nothing changes.
 abbrev pub HearsBoth : Served → Event → Option (Result Note Refusal) → Served → Type 0

@@ -4,9 +4,10 @@ use Rattle.flash_model.specs.Calls.{Call, Programs, Erases, Arms}
 use Rattle.device_station.specs.declared.recorded.flash.RecordedFlash.{RecordedFlash}
 use Rattle.device_station.specs.recorded.Entry.{call_of}
 use Rattle.device_station.specs.recorded.Fits.{fits_in}
-use Rattle.device_core.specs.Leaps.{live_due_in}
+use Rattle.relations.specs.declared.steady.Steady.{Steady}
 use Rattle.device_core.specs.State as device
 use Rattle.device_core.specs.State.{Live}
+use Rattle.device_core.specs.Steady.{IsSteadyAt}
 use Rattle.device_station.specs.declared.port.device.Work.{Work}
 use Rattle.device_station.specs.declared.port.device.Work.TheVariants.{Nothing, Carry, Send}
 use Rattle.device_station.specs.declared.port.refusal.Refusal.{Refusal}
@@ -31,11 +32,9 @@ IsSteady Made has_failed calls frames = (has_failed ≡ true) × (calls ≡ []) 
 IsSteady Booted has_failed calls frames = has_failed ≡ false
 IsSteady Lost has_failed calls frames = (calls ≡ []) × (frames ≡ [])
 
--- A number of units before which nothing is due, if one is known: it is known only of a port that is open and from which no flash
--- call remains.
-abbrev pub IsCounted : Option ℕ → Live → Stage → List Call → Type 0
-IsCounted None live stage calls = Unit {0}
-IsCounted (Some due) live stage calls = (due ≤ live_due_in live) × (0 < due) × (stage ≡ Booted) × (calls ≡ [])
+-- When the next units bring something, if this is known: only of a port that is open and from which no flash call remains.
+abbrev pub IsKnown : Steady → Live → Stage → List Call → Type 0
+IsKnown steady live stage calls = 0 < steady.inputs → IsSteadyAt steady live × (stage ≡ Booted) × (calls ≡ [])
 
 -- Why a port reports nothing: it did not start, or power was lost.
 abbrev pub closed : Stage → Option Refusal

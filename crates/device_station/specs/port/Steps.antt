@@ -1,5 +1,5 @@
 -- What a port does with what happens.
-use Rattle.std.specs.Prelude.{◌≡◌, ◌≢◌, ◌≤◌, ◌-◌, ℕ, zero, suc, List, [], length, Option, Some, None, Result, Ok, Err}
+use Rattle.std.specs.Prelude.{◌≡◌, ◌≢◌, ◌<◌, ◌≤◌, ◌-◌, true, ℕ, zero, suc, List, [], length, Option, Some, None, Result, Ok, Err}
 use Rattle.flash_model.specs.declared.flash.Sector.{Sector}
 use Rattle.pn_values.specs.declared.settings.Settings.{Settings}
 use Rattle.settings_journal.specs.Image.{StartsWith, IsForeign, LeftByDevice}
@@ -8,6 +8,7 @@ use Rattle.device_frames.specs.declared.event.Event.TheVariants.{Tick}
 use Rattle.device_core.specs.Cycle.{started}
 use Rattle.device_core.specs.Leaps.{live_due_in}
 use Rattle.device_core.specs.Machine.{step_of}
+use Rattle.device_core.specs.OpenAlarm.{has_open_alarm}
 use Rattle.device_core.specs.Steps.{IsExactStep}
 use Rattle.device_frames.specs.declared.note.Note.{Note}
 use Rattle.device_station.specs.recorded.Record.{image_of, record_of, filled}
@@ -16,7 +17,7 @@ use Rattle.device_station.specs.declared.port.device.Passed.{Passed}
 use Rattle.device_station.specs.declared.port.refusal.Refusal.{Refusal}
 use Rattle.device_station.specs.declared.port.refusal.Refusal.TheVariants as refusal
 use Rattle.device_station.specs.declared.port.stage.Stage.TheVariants.{Made, Booted}
-use Rattle.device_station.specs.port.State.{State, IsIdle, barred, past_start}
+use Rattle.device_station.specs.port.State.{State, IsIdle, barred, has_some, past_start}
 
 -- An event is one step of the device. The work after it is exactly what that step recorded, the flash calls of the
 -- commands that it accepted, in order, and then its frames.
@@ -41,6 +42,34 @@ pub record Passes (old : State) (units left : ℕ) (new : State) : Type 0 where
 abbrev pub PassesOrNot : State → ℕ → Result Passed Refusal → State → Type 0
 PassesOrNot old units (Ok passed) new = (barred old ≡ None) × Passes old units passed.left new × (passed.due ≡ live_due_in new.device.live)
 PassesOrNot old units (Err refusal) new = (barred old ≡ Some refusal) × (new ≡ old)
+
+-- Units pass that bring nothing, fewer than are due, with what is due then. No process alarm is open.
+pub record Glides (old : State) (units due : ℕ) (new : State) : Type 0 where
+  pub free : barred old ≡ None
+  pub ticks : Ticks units old new
+  pub few : units < live_due_in old.device.live
+  pub due : due ≡ live_due_in new.device.live
+  pub after : barred new ≡ None
+  pub closed : has_open_alarm old.device.live.rest.link ≡ false
+
+-- Or none passes, and nothing changes.
+abbrev pub GlidesOrNot : State → ℕ → Option ℕ → State → Type 0
+GlidesOrNot old units None new = new ≡ old
+GlidesOrNot old units (Some due) new = Glides old units due new
+
+-- Units pass up to the first that sends inputs, with what is due then. No process alarm is open.
+pub record Sends (old : State) (units : ℕ) (passed : Passed) (new : State) : Type 0 where
+  pub free : barred old ≡ None
+  pub passes : Passes old units passed.left new
+  pub due : passed.due ≡ live_due_in new.device.live
+  pub calls : new.calls ≡ []
+  pub frames : has_some new.frames ≡ true
+  pub closed : has_open_alarm old.device.live.rest.link ≡ false
+
+-- Or none passes, and nothing changes.
+abbrev pub SendsOrNot : State → ℕ → Option Passed → State → Type 0
+SendsOrNot old units None new = new ≡ old
+SendsOrNot old units (Some passed) new = Sends old units passed new
 
 -- A sector of the chip is known, and nothing else changes.
 pub record Knows (old : State) (sector : Sector) (octets : List ℕ) (new : State) : Type 0 where

@@ -1,5 +1,5 @@
 //! A device, and the work of its last step that the host has not fetched yet.
-ghost use Rattle.std.specs.Prelude.{◌≡◌, ◌≢◌, ◌+◌, ◌-◌, ◌<◌, ◌≤◌, ◌%◌, ◌^◌, [], None, Some, IfOk, MatchResult, ℕ, false, length, max, option_map, true};
+ghost use Rattle.std.specs.Prelude.{◌≡◌, ◌≢◌, ◌+◌, ◌-◌, ◌<◌, ◌≤◌, ◌%◌, ◌^◌, [], None, Some, IfOk, MatchResult, ℕ, false, length, option_map, true};
 ghost use Rattle.std.specs.Prelude.{⊤};
 ghost use mathlib.Core.Option.{none};
 ghost use types.Logic.{sem};
@@ -12,29 +12,27 @@ ghost use Rattle.device_frames.specs.declared.event.Event.TheVariants.{Applicati
 ghost use Rattle.device_frames.specs.declared.local.Local.TheVariants.{Input};
 ghost use Rattle.device_station.specs.port.State.{IsIdle, IsNext, IsRead, advanced, barred, closed, has_some, has_work as is_left, kind_of, lost, waiting as kind_in, work_kind};
 ghost use Rattle.device_station.specs.port.State.{past_start as too_late};
-ghost use Rattle.device_station.specs.port.Steps.{KnowsOrNot, Passes, PassesOrNot, StartsOrNot, Takes, Ticks};
+ghost use Rattle.device_station.specs.port.Steps.{GlidesOrNot, KnowsOrNot, Passes, PassesOrNot, SendsOrNot, StartsOrNot, Takes, Ticks};
 ghost use Rattle.device_core.specs.Leaps.{live_due_in};
 ghost use Rattle.device_core.specs.State.{station_named};
 ghost use Rattle.frame_codec.specs.Outbox.{boxed};
-ghost use Rattle.relations.specs.RelationState.{phase_of};
+ghost use Rattle.device_core.specs.OpenAlarm.{has_open_alarm};
 ghost use Rattle.device_station.specs.Beside.{beside, is_dropped, joined_beside};
 ghost use Rattle.device_station.specs.Leaps.{services_due};
 ghost use Rattle.device_station.specs.Serving.{disputes};
 ghost use Rattle.device_station.specs.Views.{joined_in, note_in};
-ghost use Rattle.device_station.specs.port.Exact.{RestsAt, fewer};
 ghost use Rattle.device_station.specs.port.Pace.{TicksBeside};
 
 use crate::port::own::OwnFrames;
 use crate::port::{Refusal, Stage};
-use crate::recording::{leap, skip, step, step_cyclic, step_input, unit};
+use crate::recording::{leap, leap_steady, skip, skip_steady, step, step_cyclic, step_input};
 use crate::{Attended, DeviceServices, Recorded, RecordedFlash};
 use asked_records::NamedRecords;
 use device_core::{Device, Event, Note};
 use flash_model::Sector;
 use frame_codec::{Frame, Outbox};
 use pn_values::{Identity, Real};
-use relations::DeviceOptions;
-use services::NEVER;
+use relations::{DeviceOptions, Steady};
 use settings_journal::Fill;
 use std::marker::Model;
 
@@ -52,19 +50,16 @@ pub(crate) struct DevicePort {
     calls_past: usize,
     /// The number of frames in the outbox that the host has fetched.
     frames_past: usize,
-    /// Nothing is due before this many units passed, if that is known: after units of time it is. An input and a cyclic frame leave
-    /// it known, any other event makes it unknown.
-    due: Option<u32>,
-    /// Whether something is due with the last of these units, or never. A cyclic frame may put it off.
-    is_exact: bool,
+    /// When the next units bring something, if only the timers of an exchange run, or if there is no relation. It is known after units
+    /// of time. An input and a cyclic frame leave it known, any other event makes it unknown.
+    steady: Steady,
 }
 
 impl Model for DevicePort {
     ghost use Rattle.std.specs.Prelude.{◌≤◌, length, drop};
     ghost use Rattle.frame_codec.specs.Outbox.{boxed};
     ghost use Rattle.device_station.specs.recorded.Record.{recalled};
-    ghost use Rattle.device_station.specs.port.State.{State, IsCounted, IsSteady};
-    ghost use Rattle.device_station.specs.port.Exact.{IsExact};
+    ghost use Rattle.device_station.specs.port.State.{State, IsKnown, IsSteady};
 
     ghost Value = { State };
 
@@ -79,8 +74,7 @@ impl Model for DevicePort {
         × (port.frames_past ≤ length port.outbox.items)
         × IsSteady port.stage port.device.live.values.has_failed (drop port.calls_past (recalled port.device.flash))
         (drop port.frames_past (boxed port.outbox))
-        × IsCounted port.due port.device.live port.stage (drop port.calls_past (recalled port.device.flash))
-        × IsExact port.is_exact port.due port.device.live };
+        × IsKnown port.steady port.device.live port.stage (drop port.calls_past (recalled port.device.flash)) };
 }
 
 /// What units of time left to do.
@@ -124,7 +118,7 @@ impl Fill<RecordedFlash<4096>> for Chip<'_> {
 
 impl DevicePort {
     ghost use Rattle.device_station.specs.contracts.port.device.DevicePort.{the_row};
-    ghost use Rattle.device_station.specs.port.State.{FetchesCall, FetchesFrame, IsCounted};
+    ghost use Rattle.device_station.specs.port.State.{FetchesCall, FetchesFrame};
 
     // A device that did not start, over a chip whose content is not known yet.
     #[inline(always)]
@@ -145,8 +139,7 @@ impl DevicePort {
             stage: Stage::Made,
             calls_past: 0,
             frames_past: 0,
-            due: None,
-            is_exact: false,
+            steady: Steady::unknown(),
         }
     }
 
@@ -164,11 +157,14 @@ impl DevicePort {
         why_closed(self.stage)
     }
 
-    // Whether it is known that events are accepted: what is due is known, and no frame remains.
-    pub(crate) fn is_counted(&self) -> bool
-        ensures { result ≡ true → barred self.now ≡ None }
+    // Whether it is known that events are accepted and no process alarm is open: only the timers of an exchange run, and no frame
+    // remains.
+    #[inline(always)]
+    pub(crate) fn is_steady(&self) -> bool
+        ensures open { result ≡ true → barred self.now ≡ None }
+        ensures closed { result ≡ true → has_open_alarm self.now.device.live.rest.link ≡ false }
     {
-        self.due.is_some() && !self.has_frames()
+        self.steady.inputs != 0 && !self.has_frames()
     }
 
     // Whether work of the last step remains.
@@ -210,7 +206,7 @@ impl DevicePort {
         self.device.fill(&Chip { sector, octets });
         // No stored call is one of a step.
         self.calls_past = self.device.flash().stored();
-        self.due = None;
+        self.steady = Steady::unknown();
         Ok(())
     }
 
@@ -229,7 +225,7 @@ impl DevicePort {
         requires { too_late self.old.stage ≡ None }
         ensures { StartsOrNot self.old result self.new }
     {
-        self.due = None;
+        self.steady = Steady::unknown();
         match self.device.load() {
             Ok(()) => {
                 self.stage = Stage::Booted;
@@ -248,12 +244,10 @@ impl DevicePort {
         // No unit makes a flash call.
         ensures quiet { IfOk result (λ passed. self.new.calls ≡ []) }
     {
-        let due = self.counted()?;
-        // No flash call remains after units of time, so only the frames are looked at.
-        if self.has_frames() {
-            return Err(Refusal::HasWork);
+        match self.barred() {
+            Some(refusal) => Err(refusal),
+            None => Ok(self.pass(units)),
         }
-        Ok(self.pass(units, due))
     }
 
     // Reports that a flash call failed on the host's side, which counts as lost power. The remaining work is dropped,
@@ -268,8 +262,7 @@ impl DevicePort {
         self.calls_past = self.device.flash().stored();
         self.frames_past = self.outbox.len();
         self.stage = Stage::Lost;
-        self.due = None;
-        self.is_exact = false;
+        self.steady = Steady::unknown();
         Ok(())
     }
 
@@ -389,33 +382,28 @@ impl DevicePort {
         let note = step(&mut self.device, event, &mut self.outbox);
         self.calls_past = older(before, self.device.flash());
         self.frames_past = 0;
-        self.due = None; // the event may change it
-        self.is_exact = false;
+        self.steady = Steady::unknown(); // the event may change it
         note
     }
 
-    // The same with a cyclic frame, if the relation accepts it. It is only read, makes no work, and only puts off what is due.
+    // The same with a cyclic frame, if the relation accepts it. It is only read, and makes no work.
     #[inline(always)]
     pub(crate) fn hear_cyclic(&mut self, octets: &[u8]) -> bool
         requires { barred self.old ≡ None }
         ensures taken { result ≡ true → Takes self.old (Framed (record { items = octets.now })) Note.Done self.new }
         ensures left { result ≡ false → self.new ≡ self.old }
         ensures free { barred self.new ≡ None }
-        ensures due { live_due_in self.old.device.live ≤ live_due_in self.new.device.live }
     {
-        self.is_exact = false; // the frame may put it off
         step_cyclic(&mut self.device, octets)
     }
 
-    // The same with an input, which is only read, makes no work, and changes nothing that is due.
+    // The same with an input, which is only read, and makes no work.
     #[inline(always)]
     pub(crate) fn give(&mut self, slot: u16, subslot: u16, octets: &[u8]) -> Note
         requires { barred self.old ≡ None }
         ensures takes { Takes self.old (Application (Input slot subslot (record { items = octets.now }))) result self.new }
         ensures free { barred self.new ≡ None }
-        ensures due { live_due_in self.new.device.live ≡ live_due_in self.old.device.live }
     {
-        self.is_exact = false; // the next units count it again
         step_input(&mut self.device, slot, subslot, octets)
     }
 
@@ -455,84 +443,68 @@ impl DevicePort {
 
     // ---- units of time. None of them makes a flash call, so the flash is not looked at.
 
-    // Whether that many units of time surely bring nothing, and no work remains.
+    // Whether it is known that frames of the device are the only work: only the timers of an exchange run.
     #[inline(always)]
-    pub(crate) fn is_quiet(&self, units: u32) -> bool
-        ensures open { result ≡ true → barred self.now ≡ None }
-        ensures few { result ≡ true → units < live_due_in self.now.device.live }
+    pub(crate) fn sends(&self) -> bool
+        ensures open { result ≡ true → closed self.now.stage ≡ None }
+        ensures calls { result ≡ true → self.now.calls ≡ [] }
+        ensures frames { result ≡ true → has_some self.now.frames ≡ true }
     {
-        match self.due {
-            Some(due) => units < due && !self.has_frames(),
-            None => false,
+        self.steady.inputs != 0 && self.has_frames()
+    }
+
+    // Lets units of time pass with which nothing is due, if it is known that nothing is. Returns what is due then; `None` if they did
+    // not pass.
+    #[inline(always)]
+    pub(crate) fn glide(&mut self, units: u32) -> Option<u32>
+        ensures { GlidesOrNot self.old units result self.new }
+    {
+        if units >= self.steady.inputs || self.has_frames() {
+            return None;
         }
+        skip_steady(&mut self.device, units, &mut self.steady);
+        Some(self.steady.inputs)
     }
 
-    // The same, and it is known what is due after them.
+    // Lets units of time pass up to the first that sends inputs, if it is known that nothing else is due. Returns how many remain, and
+    // what is due then; `None` if none passed.
     #[inline(always)]
-    pub(crate) fn is_counted_down(&self, units: u32) -> bool
-        ensures open { result ≡ true → barred self.now ≡ None }
-        ensures few { result ≡ true → units < live_due_in self.now.device.live }
+    pub(crate) fn send(&mut self, units: u32) -> Option<Passed>
+        ensures { SendsOrNot self.old units result self.new }
     {
-        self.is_exact && self.is_quiet(units)
-    }
-
-    // How many units nothing is due for, if the port is open and no flash call remains; else why no event is accepted.
-    #[inline(always)]
-    fn counted(&mut self) -> Result<u32, Refusal>
-        ensures same { self.new ≡ self.old }
-        ensures counted { MatchResult result (λ due. IsCounted (Some due) self.old.device.live self.old.stage self.old.calls)
-            (λ refusal. barred self.old ≡ Some refusal) }
-    {
-        match self.due {
-            Some(due) => Ok(due),
-            None => self.count(),
+        let inputs = self.steady.inputs;
+        if inputs == 0 || units < inputs || inputs >= self.steady.held || self.has_frames() {
+            return None;
         }
-    }
-
-    // Counts the units until something is due, which then is known, if an event is accepted now.
-    #[inline(never)]
-    fn count(&mut self) -> Result<u32, Refusal>
-        ensures same { self.new ≡ self.old }
-        ensures counted { MatchResult result (λ due. IsCounted (Some due) self.old.device.live self.old.stage self.old.calls)
-            (λ refusal. barred self.old ≡ Some refusal) }
-    {
-        if let Some(refusal) = self.barred() {
-            return Err(refusal);
-        }
-        let due = self.device.due();
-        self.due = Some(due);
-        self.is_exact = is_exact(&self.device, due);
-        Ok(due)
-    }
-
-    // Lets one unit pass while events are accepted. Returns what is due then.
-    #[inline(always)]
-    pub(crate) fn unit(&mut self) -> u32
-        requires { barred self.old ≡ None }
-        ensures ticks { Ticks 1 self.old self.new }
-        ensures due { result ≡ live_due_in self.new.device.live }
-        ensures quiet { self.new.calls ≡ [] }
-    {
-        unit(&mut self.device, &mut self.outbox);
+        leap_steady(&mut self.device, &mut self.steady, &mut self.outbox);
         self.frames_past = 0;
-        let due = self.device.due();
-        self.due = Some(due);
-        self.is_exact = is_exact(&self.device, due);
-        due
+        Some(Passed {
+            left: units - inputs,
+            due: self.due_now(),
+        })
     }
 
-    // Lets units of time pass by leaps, up to the first that sends something, if nothing is due before `first`.
+    // What is due, if this is known.
     #[inline(always)]
-    pub(crate) fn pass(&mut self, units: u32, first: u32) -> Passed
-        requires free { barred self.old ≡ None }
-        requires due { first ≤ live_due_in self.old.device.live }
-        requires some { 0 < first }
+    fn due_now(&self) -> u32
+        ensures { result ≡ live_due_in self.now.device.live }
+    {
+        if self.steady.inputs == 0 {
+            return self.device.due();
+        }
+        self.steady.inputs
+    }
+
+    // Lets units of time pass by leaps, up to the first that sends something.
+    #[inline(never)]
+    fn pass(&mut self, units: u32) -> Passed
+        requires { barred self.old ≡ None }
         ensures passes { Passes self.old units result.left self.new }
         ensures due { result.due ≡ live_due_in self.new.device.live }
         ensures quiet { self.new.calls ≡ [] }
     {
         let mut left = units;
-        let mut due = first;
+        let mut due = self.device.due();
         while left >= due {
             left -= due;
             due = self.leap(due);
@@ -547,7 +519,6 @@ impl DevicePort {
     }
 
     // Lets units of time pass, at most as many as are due. All work of the step before is fetched. Returns what is due then.
-    #[inline(always)]
     fn leap(&mut self, units: u32) -> u32
         requires free { barred self.old ≡ None }
         requires few { units ≤ live_due_in self.old.device.live }
@@ -559,15 +530,12 @@ impl DevicePort {
     {
         leap(&mut self.device, units, &mut self.outbox);
         self.frames_past = 0;
-        let due = self.device.due();
-        self.due = Some(due);
-        self.is_exact = is_exact(&self.device, due);
-        due
+        self.steady = self.device.steady();
+        self.device.due()
     }
 
     // Lets units of time pass with which nothing is due, while events are accepted: fewer than `due` returns. Returns what
     // is due then.
-    #[inline(always)]
     pub(crate) fn skip(&mut self, units: u32) -> u32
         requires free { barred self.old ≡ None }
         requires few { units < live_due_in self.old.device.live }
@@ -578,91 +546,9 @@ impl DevicePort {
         ensures quiet { self.new.calls ≡ [] }
     {
         skip(&mut self.device, units);
-        let due = due_after(&self.device, self.due, self.is_exact, units);
-        self.due = Some(due);
-        self.is_exact = stays_exact(&self.device, due, self.is_exact);
-        due
+        self.steady = self.device.steady();
+        self.device.due()
     }
-
-    // The same where nobody asks what is due then.
-    #[inline(always)]
-    pub(crate) fn pass_quietly(&mut self, units: u32)
-        requires free { barred self.old ≡ None }
-        requires few { units < live_due_in self.old.device.live }
-        ensures ticks { Ticks units self.old self.new }
-        ensures free { barred self.new ≡ None }
-        ensures quiet { self.new.calls ≡ [] }
-    {
-        skip(&mut self.device, units);
-        self.due = nearer(self.due, units);
-        self.is_exact = false; // mostly a cyclic frame comes next
-    }
-}
-
-// For how many units nothing is due, some units later, if nothing was due with these.
-fn nearer(due: Option<u32>, units: u32) -> Option<u32>
-    ensures { result ≡ option_map (λ before. max 1 (before - units)) due }
-{
-    match due {
-        Some(due) => Some(due.saturating_sub(units).max(1)),
-        None => None,
-    }
-}
-
-// What is due of a device after units with which nothing was, if this was known before them.
-#[inline(always)]
-fn due_after(
-    device: &Device<RecordedFlash<4096>, 4096>,
-    due: Option<u32>,
-    is_exact: bool,
-    units: u32,
-) -> u32
-    requires { (before : ℕ) → due ≡ Some before → is_exact ≡ true → units < before }
-    ensures exact { (before : ℕ) → due ≡ Some before → is_exact ≡ true → result ≡ fewer units before }
-    ensures counted { is_exact ≡ false → result ≡ live_due_in device.now.live }
-    ensures some { 0 < result }
-{
-    match due {
-        Some(due) if is_exact => fewer(due, units),
-        _ => device.due(),
-    }
-}
-
-// What is due after units with which nothing is, if so much was due before them.
-#[inline(always)]
-fn fewer(due: u32, units: u32) -> u32
-    requires { units < due }
-    ensures value { result ≡ fewer units due }
-    ensures some { 0 < result }
-{
-    if due == NEVER { NEVER } else { due - units }
-}
-
-// Whether it is known that this comes nearer by each unit that passes, or that nothing is ever due.
-#[inline(always)]
-fn is_exact(device: &Device<RecordedFlash<4096>, 4096>, due: u32) -> bool
-    requires { due ≡ live_due_in device.now.live }
-    ensures { result ≡ true → RestsAt device.now.live }
-{
-    due != NEVER || is_idle(device)
-}
-
-// The same after units with which nothing was due, if it was known before them.
-#[inline(always)]
-fn stays_exact(device: &Device<RecordedFlash<4096>, 4096>, due: u32, was_exact: bool) -> bool
-    requires due { due ≡ live_due_in device.now.live }
-    requires before { was_exact ≡ true → RestsAt device.now.live }
-    ensures { result ≡ true → RestsAt device.now.live }
-{
-    was_exact || is_exact(device, due)
-}
-
-// Whether no unit ever brings anything: the lamp is off, and there is no relation.
-#[inline(never)]
-fn is_idle(device: &Device<RecordedFlash<4096>, 4096>) -> bool
-    ensures { result ≡ true → (device.now.live.rest.lamp ≡ 0) × (phase_of device.now.live.rest.link ≡ None) }
-{
-    device.lamp() == 0 && device.phase().is_none()
 }
 
 // Why a port reports nothing at this stage.

@@ -5,10 +5,11 @@ ghost use Rattle.device_station.specs.port.State.{IsIdle, IsRead, closed, has_so
 ghost use Rattle.device_station.specs.declared.port.stage.Stage.TheVariants.{Booted, Made};
 ghost use Rattle.device_frames.specs.declared.event.Event.TheVariants.{Application, Frame as Framed};
 ghost use Rattle.device_frames.specs.declared.local.Local.TheVariants.{Alarm, Answer, Diagnosis, Input, Plug, ProviderState, Pull, PullModule, Ready, ReadyAt, Refuse, Status, Written};
+ghost use Rattle.device_core.specs.OpenAlarm.{has_open_alarm};
 ghost use Rattle.device_core.specs.State.{station_named};
 ghost use Rattle.device_station.specs.port.Pace.{AreCalm};
 ghost use Rattle.device_station.specs.port.Served.{IsFetched, IsNextBoth, advanced_both, barred_both, conflicts_of, due_both, frames_of, linked_both, lost_both, or_own as kind_or_own, waiting_both};
-ghost use Rattle.device_station.specs.port.ServedSteps.{AnswersBoth, HearsBoth, IsOfApplication, KnowsBothOrNot, PassesBothOrNot, PassesOneOrNot, QuietOrNot, SkipsOrNot};
+ghost use Rattle.device_station.specs.port.ServedSteps.{AnswersBoth, HearsBoth, IsOfApplication, KnowsBothOrNot, PassesBothOrNot, QuietOrNot, SendsBothOrNot, SkipsOrNot};
 ghost use Rattle.device_station.specs.port.ServedSteps.{StartsBothOrNot, StepsBoth, TellsBoth, TicksBoth};
 
 use crate::port::beside::{
@@ -213,9 +214,9 @@ impl Port {
         Some(self.hear(octets))
     }
 
-    // Any frame.
+    /// The same with any frame.
     #[inline(never)]
-    fn hear(&mut self, octets: &[u8]) -> Result<Note, Refusal>
+    pub fn hear(&mut self, octets: &[u8]) -> Result<Note, Refusal>
         ensures { AnswersBoth self.old (Framed (record { items = take 1519 octets.now })) result self.new }
     {
         match self.barred() {
@@ -248,17 +249,19 @@ impl Port {
         )
     }
 
-    // A cyclic frame, if it is known that events are accepted and that the services have no part in it. Returns whether it was accepted;
-    // if not, nothing changes.
+    /// The same with a cyclic frame, as most frames are, if it is known that events are accepted, that no process alarm is open, and that
+    /// the services have no part in it. Returns whether it was accepted in silence: the note is `Done`, and no work remains; if not,
+    /// nothing changes.
     #[inline(always)]
-    fn take_cyclic(&mut self, octets: &[u8]) -> bool
+    pub fn take_cyclic(&mut self, octets: &[u8]) -> bool
         ensures taken { result ≡ true → HearsBoth self.old (Framed (record { items = take 1519 octets.now })) None self.new }
         ensures left { result ≡ false → self.new ≡ self.old }
+        ensures closed { result ≡ true → has_open_alarm self.old.port.device.live.rest.link ≡ false }
     {
         if self.rest == 0 {
             return false;
         }
-        if !self.port.is_quiet(0) {
+        if !self.port.is_steady() {
             return false;
         }
         quiet_units_are_ticks();
@@ -275,7 +278,7 @@ impl Port {
         if self.rest == 0 {
             return Some(self.get_input(slot, subslot, octets));
         }
-        if !self.port.is_quiet(0) {
+        if !self.port.is_steady() {
             return Some(self.get_input(slot, subslot, octets));
         }
         quiet_units_are_ticks();
@@ -430,31 +433,44 @@ impl Port {
         note
     }
 
-    /// Whether that many units of time surely bring nothing, and no work remains.
-    #[inline(always)]
-    pub fn is_quiet(&self, units: u32) -> bool
-        ensures { result ≡ true → barred_both self.now ≡ None }
-    {
-        units < self.rest && self.port.is_quiet(units)
-    }
-
     /// Lets units of time pass if they surely bring nothing, as most do, and returns what is due then. No work remains then. `None`
     /// if none passed: they may bring something, or work remains.
     #[inline(always)]
-    pub fn skip(&mut self, units: u32) -> Option<u32>
+    pub fn glide(&mut self, units: u32) -> Option<u32>
         ensures { SkipsOrNot self.old units result self.new }
     {
         if units >= self.rest {
             return None;
         }
-        if !self.port.is_counted_down(units) {
-            return None;
-        }
         quiet_units_are_ticks();
-        let due = self.port.skip(units);
+        let Some(due) = self.port.glide(units) else {
+            return None;
+        };
         // The services do not know of them yet.
         self.rest -= units;
         Some(soonest(due, self.rest, &self.services))
+    }
+
+    /// Lets units of time pass up to the first that sends inputs, if they surely bring nothing else, and returns how many remain, and
+    /// what is due then. The frame of the inputs is the only work then. `None` if none passed: they may bring something else or no
+    /// inputs, or work remains.
+    #[inline(always)]
+    pub fn send(&mut self, units: u32) -> Option<Passed>
+        ensures { SendsBothOrNot self.old units result self.new }
+    {
+        if units >= self.rest {
+            return None;
+        }
+        quiet_units_are_ticks();
+        let Some(passed) = self.port.send(units) else {
+            return None;
+        };
+        // The services do not know of them yet.
+        self.rest -= units - passed.left;
+        Some(Passed {
+            left: passed.left,
+            due: soonest(passed.due, self.rest, &self.services),
+        })
     }
 
     /// Lets units of time pass before a frame, as far as they bring nothing. Returns how many remain: some only if the next one brings
@@ -463,17 +479,10 @@ impl Port {
     pub fn pass_quiet(&mut self, units: u32) -> Result<u32, Refusal>
         ensures { QuietOrNot self.old units result self.new }
     {
-        if units >= self.rest {
-            return self.pass_some(units);
+        match self.glide(units) {
+            Some(_) => Ok(0),
+            None => self.pass_some(units),
         }
-        if !self.port.is_quiet(units) {
-            return self.pass_some(units);
-        }
-        quiet_units_are_ticks();
-        self.port.pass_quietly(units);
-        // The services do not know of them yet.
-        self.rest -= units;
-        Ok(0)
     }
 
     // The same if it is not known how many bring nothing.
@@ -495,56 +504,10 @@ impl Port {
         let due = self.port.device().due();
         let first = due.min(rest);
         let quiet = units.min(first - 1);
-        self.port.pass_quietly(quiet);
+        let _ = self.port.skip(quiet);
         // The services do not know of them yet.
         self.rest = rest - quiet;
         Ok(units - quiet)
-    }
-
-    /// Lets one unit of time pass if no work remains and the services have no part in it, and returns what is due then. Only frames
-    /// of the device are work then. `None` if it did not pass.
-    #[inline(always)]
-    pub fn unit(&mut self) -> Option<u32>
-        ensures passes { PassesOneOrNot self.old result self.new }
-        // It passes if no work remains, and something is due of the services only after it.
-        ensures done { barred_both self.old ≡ None → (limit : ℕ) → 1 < limit → AreCalm limit self.old.port.device.live.values self.old.services →
-            IsSome result }
-    {
-        if self.rest <= 1 {
-            return self.unit_again();
-        }
-        if !self.is_open() {
-            return None;
-        }
-        quiet_units_are_ticks();
-        let due = self.port.unit();
-        // The services do not know of it yet.
-        self.rest -= 1;
-        Some(soonest(due, self.rest, &self.services))
-    }
-
-    // The same if it is not known whether the services have a part in it, or they have one.
-    #[inline(never)]
-    fn unit_again(&mut self) -> Option<u32>
-        ensures passes { PassesOneOrNot self.old result self.new }
-        ensures done { barred_both self.old ≡ None → (limit : ℕ) → 1 < limit → AreCalm limit self.old.port.device.live.values self.old.services →
-            IsSome result }
-    {
-        if self.barred().is_some() {
-            return None;
-        }
-        catch_up(&mut self.services, self.limit - self.rest);
-        let rest = rest_of(&self.port, &self.services);
-        self.rest = rest;
-        self.limit = rest;
-        if rest <= 1 {
-            return None;
-        }
-        quiet_units_are_ticks();
-        let due = self.port.unit();
-        // The services do not know of it yet.
-        self.rest = rest - 1;
-        Some(soonest(due, rest - 1, &self.services))
     }
 
     /// Lets units of time pass, up to the first that sends something. Returns how many remain, and what is due then.
@@ -632,18 +595,22 @@ impl Port {
         self.port.has_frames()
     }
 
+    /// Whether it is known that frames of the device are the only work.
+    #[inline(always)]
+    pub fn sends(&self) -> bool
+        ensures open { result ≡ true → closed self.now.port.stage ≡ None }
+        ensures calls { result ≡ true → self.now.port.calls ≡ [] }
+        ensures frames { result ≡ true → has_some self.now.port.frames ≡ true }
+        ensures own { result ≡ true → self.now.frames ≡ [] }
+    {
+        self.rest != 0 && self.port.sends()
+    }
+
     /// Whether flash calls of the last step remain.
     pub fn has_calls(&self) -> bool
         ensures { result ≡ has_some self.now.port.calls }
     {
         self.port.has_calls()
-    }
-
-    /// Whether it is known that the services have no frame.
-    pub fn is_calm(&self) -> bool
-        ensures { result ≡ true → self.now.frames ≡ [] }
-    {
-        self.rest != 0
     }
 
     /// The kind of the next piece of work, as of a port: 1 for a program call, 2 for an erase, 3 for a frame, 0 if no work
@@ -774,19 +741,6 @@ impl Port {
             None if self.has_work() => Some(Refusal::HasWork),
             None => None,
         }
-    }
-
-    // Whether events are accepted, if the services have no frames.
-    #[inline(always)]
-    fn is_open(&self) -> bool
-        requires { self.now.frames ≡ [] }
-        ensures open { result ≡ true → barred_both self.now ≡ None }
-        ensures barred { result ≡ false → barred_both self.now ≢ None }
-    {
-        if self.port.is_counted() {
-            return true;
-        }
-        self.barred().is_none()
     }
 
     /// Whether work of the last step remains.

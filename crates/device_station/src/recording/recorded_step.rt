@@ -3,7 +3,8 @@ ghost use Rattle.std.specs.Prelude.{◌≡◌, ◌≤◌, false, true, []};
 ghost use Rattle.device_core.specs.Machine.{step_of};
 ghost use Rattle.device_frames.specs.declared.event.Event.TheVariants.{Application, Frame as Framed};
 ghost use Rattle.device_frames.specs.declared.local.Local.TheVariants.{Input};
-ghost use Rattle.device_core.specs.Leaps.{live_due_in};
+ghost use Rattle.device_core.specs.Steady.{IsSteadyAt};
+ghost use Rattle.relations.specs.declared.steady.Steady.{Steady};
 ghost use Rattle.device_core.specs.Steps.{IsExactStep};
 ghost use Rattle.device_station.specs.recording.Leaps.{StepsAlone};
 ghost use Rattle.device_station.specs.recording.Recorded.{Records};
@@ -44,8 +45,8 @@ pub fn step_cyclic<const S: usize>(device: &mut Device<RecordedFlash<S>, S>, oct
     ensures left { result ≡ false → device.new ≡ device.old }
     ensures flash { device.new.flash ≡ device.old.flash }
     ensures going { device.new.live.values.has_failed ≡ false }
-    // It only puts off what is due.
-    ensures due { live_due_in device.old.live ≤ live_due_in device.new.live }
+    // It does not bring nearer what is due.
+    ensures steady { (steady : Steady) → IsSteadyAt steady device.old.live → IsSteadyAt steady device.new.live }
 {
     // The stored settings are what a restart finds.
     let _ = device.stored();
@@ -63,8 +64,8 @@ pub fn step_input<const S: usize>(
     ensures alone { StepsAlone device.old (Application (Input slot subslot (record { items = value.now }))) [] result device.new }
     ensures flash { device.new.flash ≡ device.old.flash }
     ensures going { device.new.live.values.has_failed ≡ false }
-    // It changes nothing that is due.
-    ensures due { live_due_in device.new.live ≡ live_due_in device.old.live }
+    // It does not bring nearer what is due.
+    ensures steady { (steady : Steady) → IsSteadyAt steady device.old.live → IsSteadyAt steady device.new.live }
 {
     // The stored settings are what a restart finds.
     let _ = device.stored();

@@ -1,8 +1,7 @@
--- No alarm is open: units pass that bring nothing, or others.
-use Rattle.std.proofs.Common.{◌∙◌, sym, subst}
+-- Units pass that bring nothing, while no alarm is open, or others.
+use Rattle.std.proofs.Common.{sym, subst}
 use Rattle.device_station.specs.port.Served.{Served}
-use Rattle.device_abi.specs.declared.confirmation.Confirmation.TheVariants.{Nothing}
-use Rattle.device_abi.specs.Serves.{IsTickWith}
+use Rattle.device_abi.specs.Serves.{IsTick}
 use Rattle.device_abi.proofs.Confirming.{passed_without}
 use Rattle.device_abi.proofs.Reported.{passed_all}
 use Rattle.device_abi.proofs.serving.tick.Goals as goal
@@ -11,13 +10,9 @@ pub returns-in-Some : goal.returns-in-Some
 returns-in-Some c =
     let s = c.in-Some.ensures in
     let op = c.args.op.now in
-    let none = sym c.is_open.ensures ∙ c.if-is_open.false in
-    passed_without c.args.port.now op c.tell_passed.result c.skip.new.self c.tell_passed.new.op none
-    (passed_all c.args.port.now c.skip.new.self op c.tell_passed.new.op c.tell_passed.result c.in-Some.due 0 s.0 s.1 s.2 (sym s.3) c.tell_passed.ensures.answer c.tell_passed.ensures.reported)
+    passed_without c.args.port.now op c.tell_passed.result c.glide.new.self c.tell_passed.new.op s.6
+    (passed_all c.args.port.now c.glide.new.self op c.tell_passed.new.op c.tell_passed.result 0 c.in-Some.due 0 s.0 s.1 s.2 (sym s.3) c.tell_passed.ensures.answer c.tell_passed.ensures.reported)
 
 pub returns-in-None : goal.returns-in-None
 returns-in-None c =
-    let op = c.args.op.now in
-    let none = sym c.is_open.ensures ∙ c.if-is_open.false in
-    passed_without c.args.port.now op c.tick_more.result c.tick_more.new.port c.tick_more.new.op none
-    (subst (λ (s : Served). IsTickWith Nothing s op c.tick_more.result c.tick_more.new.port c.tick_more.new.op) c.in-None.ensures c.tick_more.ensures)
+    subst (λ (s : Served). IsTick s c.args.op.now c.tick_more.result c.tick_more.new.port c.tick_more.new.op) c.in-None.ensures c.tick_more.ensures

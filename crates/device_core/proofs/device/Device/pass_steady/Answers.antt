@@ -29,3 +29,6 @@ returns-clause-steady g c =
 
 pub returns-clause-due : goal.returns-clause-due
 returns-clause-due g c = steady_due _ _ (returns-clause-steady g c) c.pass_steady.ensures.due
+
+pub returns-clause-before : goal.returns-clause-before
+returns-clause-before g c = steady_due _ _ c.requires.steady (rw (← c.self.view_is) c.pass_steady.ensures.before)

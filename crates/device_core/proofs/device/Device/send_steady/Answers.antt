@@ -38,3 +38,6 @@ returns-clause-steady g c some =
 
 pub returns-clause-due : goal.returns-clause-due
 returns-clause-due g c some = steady_due _ _ (returns-clause-steady g c some) (c.send_steady.ensures.due some)
+
+pub returns-clause-one : goal.returns-clause-one
+returns-clause-one g c = ?

@@ -1,6 +1,5 @@
 -- What units record with which nothing is due: nothing, and they send nothing.
 use Rattle.std.proofs.Common.{refl}
-use Rattle.device_station.proofs.PortExact.{later_at}
 use Rattle.device_station.proofs.RecordingLeaps.{goes_on, passes_quietly}
 use Rattle.device_station.proofs.recording.recorded_leap.skip.Goals as goal
 
@@ -12,6 +11,3 @@ returns-clause-flash g c = rw c.pass.ensures.device refl
 
 pub returns-clause-going : goal.returns-clause-going
 returns-clause-going g c = rw c.pass.ensures.device (goes_on c.args.device.now.station c.args.device.now.live c.args.units c.requires.going)
-
-pub returns-clause-exact : goal.returns-clause-exact
-returns-clause-exact g c = λ rests. rw c.pass.ensures.device (later_at c.args.device.now.station c.args.device.now.live c.args.units c.requires.few rests)

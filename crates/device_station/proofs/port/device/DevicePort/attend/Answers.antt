@@ -26,7 +26,6 @@ invariant_of-self c =
       omega arith,
       subst (λ (f : List (List ℕ)). IsSteady port.stage port.device.live.values.has_failed (drop port.calls_past (recalled port.device.flash)) f) (free ∙ sym none) c.self.invariant.2,
       c.self.invariant.3,
-      c.self.invariant.4,
     )
 
 pub returns-clause-beside : goal.returns-clause-beside

@@ -5,7 +5,7 @@ use Rattle.device_station.specs.recorded.Entry.{call_of}
 use Rattle.device_station.specs.recorded.Record.{recalled}
 use Rattle.device_station.specs.port.State.{advanced, has_some}
 use Rattle.device_station.specs.contracts.port.device.DevicePort.{the_view}
-use Rattle.device_station.proofs.PortLeft.{call_taken, counted_call, next_at, some_there, steady_call}
+use Rattle.device_station.proofs.PortLeft.{call_taken, known_call, next_at, some_there, steady_call}
 use Rattle.device_station.proofs.port.device.DevicePort.fetch_call.Goals as goal
 
 pub overflow_add-self : goal.overflow_add-self
@@ -24,8 +24,7 @@ invariant_of-self c =
       omega (arith, some),
       c.self.invariant.1,
       steady_call port.stage port.device.live.values.has_failed port.calls_past (recalled port.device.flash) _ some c.self.invariant.2,
-      counted_call port.due port.device.live port.stage port.calls_past (recalled port.device.flash) some c.self.invariant.3,
-      c.self.invariant.4,
+      known_call port.steady port.device.live port.stage port.calls_past (recalled port.device.flash) some c.self.invariant.3,
     )
 
 pub call-requires : goal.call-requires

@@ -12,7 +12,7 @@ invariant_of-self c =
     let frames : List (List ℕ) = map (λ frame. frame.items) port.outbox.items in
     let long = length-map port.outbox.items (λ frame. frame.items) in
     let some : port.frames_past < length frames = omega (arith, c.if-self-len.true, c.len.ensures.value, long) in
-    (c.self.invariant.0, omega (arith, some, long), steady_frame port.stage port.device.live.values.has_failed port.frames_past _ frames some c.self.invariant.2, c.self.invariant.3, c.self.invariant.4)
+    (c.self.invariant.0, omega (arith, some, long), steady_frame port.stage port.device.live.values.has_failed port.frames_past _ frames some c.self.invariant.2, c.self.invariant.3)
 
 pub invariant_of-self-then-self-len : goal.invariant_of-self-then-self-len
 invariant_of-self-then-self-len c =
@@ -20,7 +20,7 @@ invariant_of-self-then-self-len c =
     let frames : List (List ℕ) = map (λ frame. frame.items) port.outbox.items in
     let long = length-map port.outbox.items (λ frame. frame.items) in
     let some : port.frames_past < length frames = omega (arith, c.if-self-len.true, c.len.ensures.value, long) in
-    (c.self.invariant.0, omega (arith, some, long), steady_frame port.stage port.device.live.values.has_failed port.frames_past _ frames some c.self.invariant.2, c.self.invariant.3, c.self.invariant.4)
+    (c.self.invariant.0, omega (arith, some, long), steady_frame port.stage port.device.live.values.has_failed port.frames_past _ frames some c.self.invariant.2, c.self.invariant.3)
 
 pub returns-then-self-len : goal.returns-then-self-len
 returns-then-self-len c =

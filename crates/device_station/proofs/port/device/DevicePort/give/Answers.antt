@@ -3,7 +3,7 @@ use Rattle.std.proofs.Common.{drop, length, ap, ◌∙◌, arith}
 use Rattle.device_station.specs.recorded.Record.{recalled}
 use Rattle.device_station.specs.port.State.{has_some}
 use Rattle.device_station.specs.contracts.port.device.DevicePort.{the_view}
-use Rattle.device_station.proofs.PortLeaps.{counted_later, stepped_at}
+use Rattle.device_station.proofs.PortLeaps.{known_later, stepped_at}
 use Rattle.device_station.proofs.PortStages.{free_at, free_in, steady_of}
 use Rattle.device_station.proofs.port.device.DevicePort.give.Goals as goal
 
@@ -29,9 +29,5 @@ invariant_of-self c =
       omega (arith, ap (λ f. length (recalled f)) c.step_input.ensures.flash),
       c.self.invariant.1,
       steady_of port.stage _ _ _ free.booted c.step_input.ensures.going,
-      counted_later port.due port.device.live c.step_input.new.device.live port.stage _ _ (omega (arith, c.step_input.ensures.due)) same c.self.invariant.3,
-      λ e. cc e,
+      known_later port.steady port.device.live c.step_input.new.device.live port.stage _ _ c.step_input.ensures.steady same c.self.invariant.3,
     )
-
-pub returns-clause-due : goal.returns-clause-due
-returns-clause-due c = rw (← c.self.view_is) c.step_input.ensures.due

@@ -1,5 +1,5 @@
 -- Units that pass at once: the work after them is the frames of the last one.
-use Rattle.std.proofs.Common.{ℕ, Option, Some, drop, length, refl, ap, ◌∙◌, arith}
+use Rattle.std.proofs.Common.{drop, length, refl, ap, ◌∙◌, arith}
 use Rattle.device_station.specs.recorded.Record.{recalled}
 use Rattle.device_station.specs.contracts.port.device.DevicePort.{the_view}
 use Rattle.device_station.proofs.PortLeaps.{passed_at}
@@ -26,13 +26,7 @@ invariant_of-self c =
       omega (arith, ap (λ f. length (recalled f)) c.leap.ensures.flash),
       omega arith,
       steady_of port.stage _ _ _ free.booted c.leap.ensures.going,
-      (
-        omega (arith, c.due-due.ensures.value),
-        c.due-due.ensures.some,
-        free.booted,
-        ap (λ f. drop port.calls_past (recalled f)) c.leap.ensures.flash ∙ free.calls,
-      ),
-      λ exact. (ap (λ (n : ℕ). let o : Option ℕ = Some n in o) c.due-due.ensures.value, c.is_exact-self-inside.ensures exact),
+      λ some. (c.steady-self-inside.ensures.steady some, free.booted, ap (λ f. drop port.calls_past (recalled f)) c.leap.ensures.flash ∙ free.calls),
     )
 
 pub returns-clause-quiet : goal.returns-clause-quiet

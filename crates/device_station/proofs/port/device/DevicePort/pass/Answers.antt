@@ -12,9 +12,9 @@ loop-due-init c =
     record {
       few = omega arith;
       ticks = subst (λ n. Ticks n port port) none refl;
-      free = c.requires.free;
-      due = c.requires.due;
-      some = c.requires.some;
+      free = c.requires;
+      due = omega (arith, c.due-due.ensures.value);
+      some = c.due-due.ensures.some;
     }
 
 pub loop-due-preserved : goal.loop-due-preserved

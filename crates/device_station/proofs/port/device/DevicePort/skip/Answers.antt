@@ -1,10 +1,8 @@
 -- Units with which nothing is due: no work remains after them.
-use Rattle.std.proofs.Common.{◌≡◌, ◌<◌, ℕ, Option, Some, [], drop, length, ap, ◌∙◌, arith}
+use Rattle.std.proofs.Common.{[], drop, length, ap, ◌∙◌, arith}
 use Rattle.device_station.specs.recorded.Record.{recalled}
 use Rattle.device_station.specs.port.State.{has_some}
 use Rattle.device_station.specs.contracts.port.device.DevicePort.{the_view}
-use Rattle.device_core.specs.Leaps.{live_due_in}
-use Rattle.device_station.proofs.PortExact.{due_is, inside, rests_on}
 use Rattle.device_station.proofs.PortLeaps.{passed_at}
 use Rattle.device_station.proofs.PortStages.{free_at, free_in, steady_of}
 use Rattle.device_station.proofs.port.device.DevicePort.skip.Goals as goal
@@ -16,42 +14,14 @@ returns-clause-ticks c =
     let same = ap (λ f. drop port.calls_past (recalled f)) c.skip.ensures.flash ∙ free.calls in
     rw (← c.self.view_is) (passed_at c.args.units (the_view port) c.skip.new.device port.stage _ _ [] free.booted free.calls free.frames free.booted same free.frames c.skip.ensures.passes)
 
-pub due_after-due-requires : goal.due_after-due-requires
-due_after-due-requires c =
-    let port = c.self.inside in
-    inside port.is_exact port.due c.args.units port.device.live c.self.invariant.4 (rw (← c.self.view_is) at c.requires.few)
-
-pub stays_exact-self-inside-requires-clause-due : goal.stays_exact-self-inside-requires-clause-due
-stays_exact-self-inside-requires-clause-due c =
-    let port = c.self.inside in
-    due_is port.is_exact port.due c.args.units _ port.device.live c.skip.new.device.live c.self.invariant.4 c.skip.ensures.exact c.due_after-due.ensures.exact c.due_after-due.ensures.counted
-
-pub stays_exact-self-inside-requires-clause-before : goal.stays_exact-self-inside-requires-clause-before
-stays_exact-self-inside-requires-clause-before c =
-    let port = c.self.inside in
-    rests_on port.is_exact port.due c.args.units port.device.live c.skip.new.device.live c.self.invariant.4 c.skip.ensures.exact
-
-pub returns-clause-due : goal.returns-clause-due
-returns-clause-due c =
-    let port = c.self.inside in
-    due_is port.is_exact port.due c.args.units _ port.device.live c.skip.new.device.live c.self.invariant.4 c.skip.ensures.exact c.due_after-due.ensures.exact c.due_after-due.ensures.counted
-
 pub invariant_of-self : goal.invariant_of-self
 invariant_of-self c =
     let port = c.self.inside in
-    let is = due_is port.is_exact port.due c.args.units _ port.device.live c.skip.new.device.live c.self.invariant.4 c.skip.ensures.exact c.due_after-due.ensures.exact c.due_after-due.ensures.counted in
-    let some = c.due_after-due.ensures.some in
     let free = free_in (the_view port) _ c.self.view_is c.requires.free in (
       omega (arith, ap (λ f. length (recalled f)) c.skip.ensures.flash),
       c.self.invariant.1,
       steady_of port.stage _ _ _ free.booted c.skip.ensures.going,
-      (
-        omega (arith, is),
-        some,
-        free.booted,
-        ap (λ f. drop port.calls_past (recalled f)) c.skip.ensures.flash ∙ free.calls,
-      ),
-      λ exact. (ap (λ (n : ℕ). let o : Option ℕ = Some n in o) is, c.stays_exact-self-inside.ensures exact),
+      λ some. (c.steady-self-inside.ensures.steady some, free.booted, ap (λ f. drop port.calls_past (recalled f)) c.skip.ensures.flash ∙ free.calls),
     )
 
 pub returns-clause-quiet : goal.returns-clause-quiet

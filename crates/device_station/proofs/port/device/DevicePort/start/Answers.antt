@@ -4,7 +4,9 @@ use Rattle.std.specs.Prelude.{drop, length}
 use Rattle.device_station.specs.declared.port.stage.Stage.{Stage}
 use Rattle.device_station.specs.declared.port.stage.Stage.TheVariants.{Booted, Made}
 use Rattle.device_station.specs.recorded.Record.{calls_in, recalled}
-use Rattle.device_station.specs.port.State.{IsCounted, IsSteady, past_start}
+use Rattle.device_station.specs.port.State.{IsSteady, past_start}
+use Rattle.relations.specs.declared.steady.Steady.{Steady}
+use Rattle.device_station.proofs.PortLeaps.{unknown}
 use Rattle.device_station.proofs.PortStages.{early_of, made_of, foreign_alone}
 use Rattle.device_station.proofs.port.device.DevicePort.start.Goals as goal
 
@@ -54,8 +56,5 @@ invariant_of-self-in-Err c =
       omega (arith, c.self.invariant.0, ap (λ r. length (calls_in r)) same),
       c.self.invariant.1,
       rw made (c.in-Err.ensures.refused, ap (λ r. drop port.calls_past (calls_in r)) same ∙ steady.1, steady.2),
-      tt,
-      λ exact.
-          let counted = subst (λ (d : Option ℕ). IsCounted d port.device.live port.stage (drop port.calls_past (recalled port.device.flash))) (c.self.invariant.4 exact).0 c.self.invariant.3 in
-          let e : ◌≡◌ {A = Stage} Made Booted = sym made ∙ counted.2 in cc,
+      unknown _ _ port.stage _ (ap (λ (s : Steady). s.inputs) c.unknown-self-inside.ensures),
     )

@@ -2,6 +2,8 @@
 use Rattle.std.proofs.Common.{◌+◌, ◌-◌, ◌<◌, ◌≤◌, ◌%◌, ◌^◌, length, sym, ap, subst, ◌∙◌, arith}
 use Rattle.device_station.specs.recorded.Record.{calls_in, recalled, record_of}
 use Rattle.device_station.specs.contracts.port.device.DevicePort.{the_view}
+use Rattle.relations.specs.declared.steady.Steady.{Steady}
+use Rattle.device_station.proofs.PortLeaps.{unknown}
 use Rattle.device_station.proofs.PortCounts.{count_after, new_ones, few_new}
 use Rattle.device_station.proofs.PortStages.{free_in, steady_of}
 use Rattle.device_station.proofs.port.device.DevicePort.take.Goals as goal
@@ -33,6 +35,5 @@ invariant_of-self c =
       subst (λ f. c.older-self-inside.result ≤ length (recalled f)) c.flash-2.ensures c.older-self-inside.ensures.most,
       omega arith,
       steady_of port.stage _ _ _ free.booted c.step-note.ensures.going,
-      tt,
-      λ e. cc e,
+      unknown _ _ port.stage _ (ap (λ (s : Steady). s.inputs) c.unknown-self-inside.ensures),
     )

@@ -33,7 +33,7 @@ returns c =
     let before = at all.serves all.port (caught_up (all.limit - all.rest) all.services) frames in
     let after = at all.serves new (caught_up (all.limit - all.rest) all.services) frames in
     let answers = input_calm laws.count laws.news all.rest all.limit all.serves all.port new all.services frames c.args.slot c.args.subslot value c.give.result (omega (arith, c.if-self-eq0.false)) c.self.invariant
-    (c.is_quiet.ensures.open c.if-not-is_quiet.false) takes in
+    (c.is_steady.ensures.open c.if-not-is_steady.false) takes in
     let none = nothing_waits new.calls new.frames frames free.calls free.frames fetched in
     rw (← c.self.view_is) (elim c.match-give.branch [
       | in-Done w ↦ rw w.result-is (subst (λ (n : Note). AnswersBoth before (Application (Input c.args.slot c.args.subslot value)) (Ok n) after) w.in-Done.is answers, none)

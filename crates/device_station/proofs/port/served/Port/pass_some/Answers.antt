@@ -55,7 +55,7 @@ invariant_of-self-2 c =
     let fetched = ap (λ (s : Served). s.frames) c.self.view_is ∙ (free_fetched c.args.self.now free).1 in
     let paced = renewed rest all.port.device.live.values c.catch_up.new.services frames fetched c.rest_of-rest.ensures.calm in
     let few : c.min-quiet.result < rest = omega (arith, c.if-rest-le1.false, c.min-first.ensures, c.min-quiet.ensures) in
-    passed_paced c.min-quiet.result rest rest all.port c.pass_quietly.new.self c.catch_up.new.services frames few paced c.pass_quietly.ensures.ticks
+    passed_paced c.min-quiet.result rest rest all.port c.skip.new.self c.catch_up.new.services frames few paced c.skip.ensures.ticks
 
 pub returns : goal.returns
 returns c =
@@ -66,7 +66,7 @@ returns c =
     let services = c.catch_up.new.services in
     let values = all.port.device.live.values in
     let laws = c.quiet_units_are_ticks.ensures in
-    let new = c.pass_quietly.new.self in
+    let new = c.skip.new.self in
     let free = sym c.barred.ensures ∙ c.in_default.is in
     let fetched = ap (λ (s : Served). s.frames) c.self.view_is ∙ (free_fetched c.args.self.now free).1 in
     let paced = renewed rest values services frames fetched c.rest_of-rest.ensures.calm in
@@ -85,9 +85,9 @@ returns c =
       record {
         few = omega arith;
         ticks = subst (λ n. TicksBoth n c.args.self.now after) count (subst (λ (s : Served). TicksBoth quiet s after) (sym same)
-            (ticks_calm laws.ticks laws.count laws.news quiet rest rest all.serves all.port new services frames few paced c.pass_quietly.ensures.ticks));
+            (ticks_calm laws.ticks laws.count laws.news quiet rest rest all.serves all.port new services frames few paced c.skip.ensures.ticks));
         none = λ some. omega (arith, first, count);
-        free = barred_alone after fetched ∙ c.pass_quietly.ensures.free;
+        free = barred_alone after fetched ∙ c.skip.ensures.free;
         stops = λ some state is limit more calm.
             let own : services ≡ Some state = c.catch_up.ensures ∙ (ap (λ (s : Served). s.services) c.self.view_is ∙ is) in
             let least : soonest (live_due_in all.port.device.live) rest services ≡ min (live_due_in all.port.device.live) rest = ap (soonest (live_due_in all.port.device.live) rest) own in

@@ -31,7 +31,7 @@ returns-clause-taken c = λ is.
     let fetched = (resting_of all.rest all.limit all.port.device.live.values all.services frames (omega (arith, c.if-self-eq0.false)) c.self.invariant).fetched in
     rw (← c.self.view_is) (
       silent_answers laws.count laws.news c.conflicts_are_noticed.ensures c.only_conflicts_are_counted.ensures all.rest all.limit all.serves all.port new all.services frames bytes
-          (omega (arith, c.if-self-eq0.false)) c.self.invariant (c.is_quiet.ensures.open c.if-not-is_quiet.false) takes free.frames,
+          (omega (arith, c.if-self-eq0.false)) c.self.invariant (c.is_steady.ensures.open c.if-not-is_steady.false) takes free.frames,
       nothing_waits new.calls new.frames frames free.calls free.frames fetched,
     )
 
@@ -39,3 +39,6 @@ pub returns-clause-left : goal.returns-clause-left
 returns-clause-left c = λ is.
     let all = c.self.inside in
     rw (← c.self.view_is) (ap (λ (p : State). at all.serves p (caught_up (all.limit - all.rest) all.services) (drop all.frames_past all.own.frames)) (c.hear_cyclic.ensures.left is))
+
+pub returns-clause-closed : goal.returns-clause-closed
+returns-clause-closed c = λ is. rw (← c.self.view_is) (c.is_steady.ensures.closed c.if-not-is_steady.false)
