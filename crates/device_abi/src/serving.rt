@@ -171,27 +171,20 @@ fn done(outcome: Result<(), Refusal>) -> u32
 
 // ---- events
 
+// A frame. Most frames are cyclic data.
 #[inline(never)]
 fn frame(port: &mut Port, op: &mut Op, given: &[u8]) -> u32
-    ensures { IsEvent port.old (Framed (record { items = take 1519 given.now })) op.old result port.new op.new }
-{
-    hear(port, op, given)
-}
-
-// The same. It is part of both functions that handle a frame. Most frames are cyclic data.
-#[inline(always)]
-fn hear(port: &mut Port, op: &mut Op, given: &[u8]) -> u32
     ensures { IsEvent port.old (Framed (record { items = take 1519 given.now })) op.old result port.new op.new }
 {
     if port.take_cyclic(given) {
         return silent(op);
     }
-    hear_other(port, op, given)
+    hear(port, op, given)
 }
 
 // Any frame.
 #[inline(never)]
-fn hear_other(port: &mut Port, op: &mut Op, given: &[u8]) -> u32
+fn hear(port: &mut Port, op: &mut Op, given: &[u8]) -> u32
     ensures { IsEvent port.old (Framed (record { items = take 1519 given.now })) op.old result port.new op.new }
 {
     if is_open(port) {
@@ -245,7 +238,7 @@ fn frame_after(port: &mut Port, op: &mut Op, given: &[u8]) -> u32
     match port.pass_quiet(op.units) {
         Ok(left) => {
             op.units = left;
-            hear(port, op, given)
+            frame(port, op, given)
         }
         Err(refusal) => refusal.number(),
     }

@@ -95,7 +95,7 @@ impl<F: Flash<S>, const S: usize> Device<F, S> {
 
     /// Takes a cyclic frame that the relation accepts, which is only read and not kept: it does what `step` does with the event of
     /// these octets, and sends nothing. Returns whether the octets are such a frame; if not, nothing changes.
-    #[inline(never)]
+    #[inline(always)]
     pub fn take_cyclic(&mut self, octets: &[u8]) -> bool
         ensures taken { result ≡ true → IsQuietStep self.old (Frame (record { items = octets.now })) Note.Done self.new }
         ensures left { result ≡ false → self.new ≡ self.old }
@@ -431,7 +431,7 @@ impl<F: Flash<S>, const S: usize> Device<F, S> {
 
     // The inputs of the exchange of the relation, and nothing else. The outbox is cleared once more, so that the
     // frame's place in it is known here.
-    #[inline(never)]
+    #[inline(always)]
     fn send_inputs_of(&self, exchange: &DataExchange, outbox: &mut Outbox) -> Note
         ensures note { result ≡ Note.Done }
         ensures frames { boxed outbox.new

@@ -34,6 +34,7 @@ given_kept flow new slot subslot value is =
 pub given_steady : (steady : Steady) (link : RelationState) (slot subslot : ℕ) (value : List ℕ) (new : Flow) → new ≡ unwrap_or (given_at link.flow slot subslot value) link.flow
     → IsSteady steady (Some link) → IsSteady steady (Some (with_flow new link))
 given_steady steady link slot subslot value new is old = stays steady link new (given_kept link.flow new slot subslot value is) old
+
 abbrev with_shown_of : RelationState → Shown → Cyclic
 with_shown_of link shown = record link.flow.cyclic { shown = shown }
 

@@ -490,9 +490,17 @@ impl DevicePort {
         ensures { result ≡ live_due_in self.now.device.live }
     {
         if self.steady.inputs == 0 {
-            return self.device.due();
+            return self.count();
         }
         self.steady.inputs
+    }
+
+    // What is due, asked of each timer.
+    #[inline(never)]
+    fn count(&self) -> u32
+        ensures { result ≡ live_due_in self.now.device.live }
+    {
+        self.device.due()
     }
 
     // Lets units of time pass by leaps, up to the first that sends something.

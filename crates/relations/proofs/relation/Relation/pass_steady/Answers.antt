@@ -3,7 +3,7 @@ use Rattle.std.proofs.Common.{◌≡◌, ◌<◌, ◌-◌, Some, refl, sym, arit
 use Rattle.relations.specs.RelationState.{RelationState}
 use Rattle.relations.specs.Steady.{IsSteady}
 use Rattle.relations.proofs.Leaps.{none_after, none_due}
-use Rattle.relations.proofs.Steady.{steady_due, steady_later, steady_nothing, steady_passes}
+use Rattle.relations.proofs.SteadyRuns.{steady_due, steady_later, steady_nothing, steady_passes}
 use Rattle.relations.proofs.relation.Relation.pass_steady.Goals as goal
 
 pub returns-in_default-clause-state : goal.returns-in_default-clause-state

@@ -2,7 +2,7 @@
 use Rattle.std.proofs.Common.{◌≡◌, ◌<◌, ◌-◌, Some, refl, arith}
 use Rattle.relations.specs.RelationState.{RelationState}
 use Rattle.relations.specs.Steady.{IsSteady}
-use Rattle.relations.proofs.Steady.{no_relation, steady_due, steady_sends, steady_sent, steady_settles}
+use Rattle.relations.proofs.SteadyRuns.{no_relation, steady_due, steady_sends, steady_sent, steady_settles}
 use Rattle.relations.proofs.relation.Relation.send_steady.Goals as goal
 
 pub returns-clause-state : goal.returns-clause-state

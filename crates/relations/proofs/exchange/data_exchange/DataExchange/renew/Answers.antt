@@ -1,0 +1,5 @@
+-- Whether a first input may be awaited.
+use Rattle.relations.proofs.exchange.data_exchange.DataExchange.renew.Goals as goal
+
+pub invariant_of-self : goal.invariant_of-self
+invariant_of-self c = ?
