@@ -95,7 +95,7 @@ impl Plugs {
     fn touch(&mut self, affected: Affected, step: Step)
         ensures { self.new ≡ touched affected step self.old }
     {
-        self.is_whole = false;
+        self.is_whole = false; // something was pulled or plugged
         touch(self.places.as_mut_slice(), affected, step);
         self.calls.drop_affected(affected);
     }

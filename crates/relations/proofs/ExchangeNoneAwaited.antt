@@ -1,5 +1,8 @@
 -- While no first input is awaited.
-use Rattle.std.proofs.Common.{◌≡◌, ◌&&◌, ◌||◌, ℕ, Bool, true, false, not, nat_lt, List, [], ◌∷◌, map, Option, Some, None, if◌then◌else◌, refl, ap, subst, sym, ◌∙◌}
+use Rattle.std.proofs.Common.{◌≡◌, ◌&&◌, ◌||◌, ℕ, Bool, true, false, not, nat_lt, List, [], ◌∷◌, map, length, Option, Some, None, if◌then◌else◌, refl, ap, subst, sym, ◌∙◌}
+use Rattle.std.proofs.lemmas.List.{length-map}
+use Rattle.arrayvec.specs.ArrayVec.{ArrayVec, with_items}
+use Rattle.arrayvec.proofs.ArrayVecLemmas.{items-with_items}
 use Rattle.wire.specs.blocks.modules.Lists.{Listed}
 use Rattle.connect_blocks.specs.declared.module_diff.DiffModule.{DiffModule}
 use Rattle.connect_blocks.specs.declared.module_diff.DiffSubmodule.{DiffSubmodule}
@@ -80,3 +83,21 @@ found_if false mark found one other = other
 pub none_awaits : (slot subslot : ℕ) (marks : List Mark) → NoneAwaited marks → awaits slot subslot marks ≡ false
 none_awaits slot subslot [] all = refl
 none_awaits slot subslot (mark ∷ marks) all = found_if (is_of Data slot subslot mark.place) mark (mark_at slot subslot marks) all.0 (none_awaits slot subslot marks all.1)
+
+-- ---- marks that lie where they stay
+
+abbrev changed_to : ArrayVec Mark → List Mark → List Mark
+changed_to marks new = (with_items marks new).items
+
+mapped : (f : Mark → Mark) (marks : ArrayVec Mark) (new : List Mark) → new ≡ map f marks.items → changed_to marks new ≡ map f marks.items
+mapped f marks new is = items-with_items marks new (ap (λ (xs : List Mark). length xs) is ∙ length-map marks.items f) ∙ is
+
+pub restated_there : (may_await : Bool) (plugs : PlugState) (marks : ArrayVec Mark) (new : List Mark) → new ≡ restated_marks plugs marks.items → MayAwait may_await marks.items
+    → MayAwait may_await (changed_to marks new)
+restated_there may_await plugs marks new is known = restated_await may_await plugs marks.items (changed_to marks new) (mapped (restated_mark plugs) marks new is) known
+
+pub renewed_there : (may_await now : Bool) (affected : Affected) (begin_bad : Bool) (marks : ArrayVec Mark) (new : List Mark) → now ≡ (may_await || begin_bad) → new ≡ renewed_marks affected begin_bad marks.items
+    → MayAwait may_await marks.items → MayAwait now (changed_to marks new)
+renewed_there may_await now affected begin_bad marks new either is known =
+    subst (λ (b : Bool). MayAwait b (changed_to marks new)) (sym either)
+    (renewed_await may_await affected begin_bad marks.items (changed_to marks new) (mapped (renewed_mark affected begin_bad) marks new is) known)

@@ -1,5 +1,5 @@
 //! The data exchange of a relation.
-ghost use Rattle.std.specs.Prelude.{◌≡◌, ◌<◌, ◌≤◌, IfSome, None, [], false, is_some, length, option_map, unwrap_or};
+ghost use Rattle.std.specs.Prelude.{◌≡◌, ◌<◌, ◌≤◌, ◌||◌, IfSome, None, [], false, is_some, length, option_map, unwrap_or};
 ghost use Rattle.relations.specs.exchange.Opening.{begun_of, opened};
 ghost use Rattle.relations.specs.exchange.Process.{given_at, output_at, rated_at, remarked, turned};
 ghost use Rattle.relations.specs.exchange.Marks.{awaits as awaits_in};
@@ -197,7 +197,7 @@ impl DataExchange {
     pub fn renew(&mut self, affected: Affected, begin_bad: bool)
         ensures { self.new ≡ renewed affected begin_bad self.old }
     {
-        self.may_await = self.may_await || begin_bad;
+        self.may_await = either(self.may_await, begin_bad);
         renew(self.marks.as_mut_slice(), affected, begin_bad);
         clear_inputs(&mut self.cyclic, self.marks.as_slice(), affected);
     }
@@ -221,6 +221,13 @@ impl DataExchange {
     {
         self.cyclic.value(slot, subslot)
     }
+}
+
+/// Whether one of these is true.
+fn either(one: bool, other: bool) -> bool
+    ensures { result ≡ (one || other) }
+{
+    one || other
 }
 
 /// Sets the inputs of affected places to zeros.

@@ -21,7 +21,15 @@ returns-clause-device g c =
     (rw (← c.self.view_is) (rw (c.units_later-self-inside.ensures.value, c.send_steady.ensures.state) refl)))
 
 pub returns-clause-frames : goal.returns-clause-frames
-returns-clause-frames g c = ?
+returns-clause-frames g c =
+    let old = c.args.self.now in
+    let is = c.requires.steady in
+    let inputs = c.args.steady.now.inputs in
+    let fits : old.live.rest.units < 18446744073709551616 = rw (← c.self.view_is) c.units_later-self-inside.ensures.fits in
+    let none : NothingDueFor (inputs - 1) old.live.rest.link = rw (← c.self.view_is) c.send_steady.ensures.nothing in
+    let last : due_of (units_over (inputs - 1) old.live.rest.link) ≡ inputs_alone = rw (← c.self.view_is) c.send_steady.ensures.last in
+    rw (sends old.station old.live inputs c.send_steady.ensures.some fits none is.unasked last)
+    (rw (← c.self.view_is) (rw (← c.units_later-self-inside.ensures.value, ← c.send_steady.ensures.state) c.send_inputs.ensures.frames))
 
 pub returns-clause-last : goal.returns-clause-last
 returns-clause-last g c =
