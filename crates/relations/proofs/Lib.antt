@@ -5,6 +5,7 @@ mod Own
 mod Waiting
 pub mod Leaps
 mod ExchangeAwaited
+mod ExchangeNoneAwaited
 pub mod ExchangeKept
 pub mod ExchangeRuns
 pub mod ExchangeInputs
