@@ -17,9 +17,9 @@ use Rattle.frame_codec.proofs.Layers.{internet_header_sound, udp_header_sound, p
 
 -- the octets before the checksum of IPv4
 abbrev front : ℕ → List ℕ
-front size = internet_size.write size (internet_way.write tt [])
+front size = internet_size.write size ((internet_way 17).write tt [])
 
-header_parts : (h : InternetHeader) → internet_header.write h [] ≡ front h.size ++ (big_bytes 2 h.checksum ++ (h.source ++ (h.destination ++ [])))
+header_parts : (h : InternetHeader) → (internet_header 17).write h [] ≡ front h.size ++ (big_bytes 2 h.checksum ++ (h.source ++ (h.destination ++ [])))
 unfolding internet_header internet_size internet_way size_behind
 header_parts h = refl
 
@@ -28,20 +28,20 @@ unfolding internet_size internet_way size_behind
 front_size size = refl
 
 header_words : (h : InternetHeader) → h.checksum < 256 ^ 2
-    → words_total (internet_header.write h []) ≡ words_total (front h.size) + (h.checksum + words_total (h.source ++ (h.destination ++ [])))
+    → words_total ((internet_header 17).write h []) ≡ words_total (front h.size) + (h.checksum + words_total (h.source ++ (h.destination ++ [])))
 header_words h fits =
     let rest = h.source ++ (h.destination ++ []) in
     ap words_total (header_parts h) ∙ words_append 5 (front h.size) (big_bytes 2 h.checksum ++ rest) (front_size h.size)
     ∙ ap (λ (n : ℕ). words_total (front h.size) + n) (word_of h.checksum rest fits)
 
 -- the sum of a header with its checksum is all ones
-pub header_passes : (h : InternetHeader) → h.checksum ≡ 0 → ones_sum_of (internet_header.write (internet_sealed h) []) ≡ 65535
+pub header_passes : (h : InternetHeader) → h.checksum ≡ 0 → ones_sum_of ((internet_header 17).write (internet_sealed 17 h) []) ≡ 65535
 unfolding ones_sum_of
 header_passes h bare =
-    let sum = carried (words_total (internet_header.write h [])) in
+    let sum = carried (words_total ((internet_header 17).write h [])) in
     let before = header_words h (omega (arith, bare)) in
     let after = header_words (record h { checksum = complement sum }) (complement_most sum) in
-    ap carried (after ∙ omega (arith, before, bare)) ∙ sealed_sum (words_total (internet_header.write h []))
+    ap carried (after ∙ omega (arith, before, bare)) ∙ sealed_sum (words_total ((internet_header 17).write h []))
 
 -- ---- a datagram
 
@@ -85,7 +85,7 @@ or_true : (b other : Bool) → other ≡ true → (b || other) ≡ true
 or_true true other e = refl
 or_true false other e = e
 
-ends_of : (h : InternetHeader) → internet_header.Fits h → (length h.source ≡ 4) × (length h.destination ≡ 4)
+ends_of : (h : InternetHeader) → (internet_header 17).Fits h → (length h.source ≡ 4) × (length h.destination ≡ 4)
 unfolding internet_header
 ends_of h fits = (fits.1.1.1.0, fits.1.1.1.1)
 
@@ -95,7 +95,7 @@ size_of h content = omega arith
 
 -- the packet for a datagram can be written: its checksums are right and its lengths match its contents
 pub datagram_fits : (source destination : Endpoint) (body : List ℕ)
-    → internet_header.Fits (headers_of source destination body).0 → udp_header.Fits (packet_of source destination body).1.0
+    → (internet_header 17).Fits (headers_of source destination body).0 → udp_header.Fits (packet_of source destination body).1.0
     → datagram.Fits (UdpDatagram source destination body)
 unfolding datagram packet udp
 datagram_fits source destination body one other =
@@ -108,7 +108,7 @@ datagram_fits source destination body one other =
 -- two headers and a body make a packet
 pub datagram_joined : (source destination : Endpoint) (body : List ℕ) (ip : InternetHeader) (h : UdpHeader) (before one two all : List ℕ)
     → ip ≡ (headers_of source destination body).0 → h ≡ (packet_of source destination body).1.0
-    → one ≡ before ++ internet_header.write ip [] → two ≡ one ++ udp_header.write h [] → all ≡ two ++ body
+    → one ≡ before ++ (internet_header 17).write ip [] → two ≡ one ++ udp_header.write h [] → all ≡ two ++ body
     → all ≡ before ++ datagram.write (UdpDatagram source destination body)
 unfolding datagram packet udp
 datagram_joined source destination body ip h before one two all ip_is h_is e f g =
@@ -117,7 +117,7 @@ datagram_joined source destination body ip h before one two all ip_is h_is e f g
     let tail : all ≡ one ++ (content ++ []) =
     put_behind udp_header packet_at.1.0 one two all (body ++ []) udp_header_sound (f ∙ ap (λ (x : UdpHeader). one ++ udp_header.write x []) h_is)
     (g ∙ ap (λ (xs : List ℕ). two ++ xs) (sym (append-nil body))) ∙ ap (λ (xs : List ℕ). one ++ xs) (sym (append-nil content)) in
-    put_behind internet_header packet_at.0.0 before one all (content ++ []) internet_header_sound (e ∙ ap (λ (x : InternetHeader). before ++ internet_header.write x []) ip_is) tail
+    put_behind (internet_header 17) packet_at.0.0 before one all (content ++ []) (internet_header_sound 17) (e ∙ ap (λ (x : InternetHeader). before ++ (internet_header 17).write x []) ip_is) tail
 
 -- ---- sums of the code
 

@@ -12,11 +12,11 @@ size_fits : (size : ℕ) → 8 ≤ size → size ≤ 1480 → internet_size.Fits
 unfolding internet_size size_behind
 size_fits size least most = ((refl, omega arith), (omega arith, ((le-leb 28 (size + 20) (omega (arith, least)), omega (arith, most)), omega arith)))
 
-way_fits : internet_way.Fits tt
+way_fits : (internet_way 17).Fits tt
 unfolding internet_way
 way_fits = ((refl, omega arith), (omega arith, (refl, omega arith)))
 
-internet_fits : (from to : Endpoint) (body : List ℕ) → length from.address ≡ 4 → length to.address ≡ 4 → length body ≤ 1472 → internet_header.Fits (headers_of from to body).0
+internet_fits : (from to : Endpoint) (body : List ℕ) → length from.address ≡ 4 → length to.address ≡ 4 → length body ≤ 1472 → (internet_header 17).Fits (headers_of from to body).0
 unfolding internet_header
 internet_fits from to body source destination few =
     (size_fits (length body + 8) (omega arith) (omega (arith, few)), (way_fits, (complement_most _, (source, destination))))

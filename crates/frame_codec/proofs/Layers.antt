@@ -2,7 +2,7 @@
 use Rattle.std.proofs.Common.{◌≡◌, ℕ, ◌+◌, ◌==◌, Bool, true, false, List, [], ◌++◌, Option, Some, None, refl, ap, sym, ◌∙◌, append_assoc, arith}
 use Rattle.wire.specs.Codec.{Codec, Whole, IsSound, IsSoundWhole, IsOnward}
 use Rattle.wire.specs.Formats.{number, ◌⨾◌}
-use Rattle.wire.specs.Whole.{pick, refused}
+use Rattle.wire.specs.Whole.{pick, refused, loose}
 use Rattle.wire.proofs.Fields.{raw_sound, raw_onward, number_sound, number_onward}
 use Rattle.wire.proofs.Joined.{then_by_sound, then_by_onward, seen_sound, seen_onward, when_sound, when_onward, unchecked_sound, unchecked_onward}
 use Rattle.wire.proofs.Handled.{checked_sound, checked_onward, fixed_sound, fixed_onward, allowed_sound, named_sound, named_onward, variant_sound}
@@ -20,7 +20,7 @@ use Rattle.frame_codec.specs.declared.fault.FrameFault.{FrameFault}
 use Rattle.frame_codec.specs.declared.fault.FrameFault.TheVariants as fault
 use Rattle.frame_codec.specs.Meaning.{Content, RealTime, ArpPacket, UdpDatagram, Meaning}
 use Rattle.frame_codec.specs.Arp.{operation_of, number_of_operation, operation, arp_head, holder, arp_packet}
-use Rattle.frame_codec.specs.Internet.{size_behind, internet_size, no_fragment, internet_way, internet_header, udp_header, udp, passes, segment, inside, packet}
+use Rattle.frame_codec.specs.Internet.{size_behind, internet_size, no_fragment, internet_way, internet_header, udp_header, udp, passes, segment, packet, packet_with}
 use Rattle.frame_codec.specs.Frame.{vlan, profinet, address_resolution, internet, mac, tag_and_type_of, parts_of_tag, tag_and_type, ethernet, real_time_in, real_time, arp_in, arp, packet_in, datagram_in, datagram, content_under, content_with, layers, with_behind}
 
 -- ---- the Ethernet header
@@ -118,31 +118,31 @@ unfolding internet_size
 internet_size_onward = seen_onward _ (λ (size : ℕ). (tt, (tt, (size, tt)))) _ (then_by_onward _ _ (fixed_onward fault.IpHeader 1 0x45)
     (λ _. then_by_onward _ _ (unchecked_onward fault.IpHeader 1 0) (λ _. then_by_onward _ _ (size_behind_onward fault.IpHeader 20 28) (λ _. unchecked_onward fault.IpHeader 2 0))))
 
-no_fragment_sound : IsSound no_fragment
+pub no_fragment_sound : IsSound no_fragment
 no_fragment_sound = seen_sound _ _ _ (λ _. refl) (checked_sound _ fault.IpHeader _ (number_sound fault.IpHeader 2))
 
 no_fragment_onward : IsOnward no_fragment
 no_fragment_onward = seen_onward _ (λ _. 0x4000) _ (checked_onward _ fault.IpHeader _ (number_onward fault.IpHeader 2))
 
-pub internet_way_sound : IsSound internet_way
+pub internet_way_sound : (protocol : ℕ) → IsSound (internet_way protocol)
 unfolding internet_way
-internet_way_sound = seen_sound _ _ _ (λ _. refl)
-    (then_by_sound _ _ no_fragment_sound (λ _. then_by_sound _ _ (unchecked_sound fault.IpHeader 1 64) (λ _. fixed_sound fault.IpHeader 1 17)))
+internet_way_sound protocol = seen_sound _ _ _ (λ _. refl)
+    (then_by_sound _ _ no_fragment_sound (λ _. then_by_sound _ _ (unchecked_sound fault.IpHeader 1 64) (λ _. fixed_sound fault.IpHeader 1 protocol)))
 
-internet_way_onward : IsOnward internet_way
+internet_way_onward : (protocol : ℕ) → IsOnward (internet_way protocol)
 unfolding internet_way
-internet_way_onward = seen_onward _ (λ _. (tt, (tt, tt))) _
-    (then_by_onward _ _ no_fragment_onward (λ _. then_by_onward _ _ (unchecked_onward fault.IpHeader 1 64) (λ _. fixed_onward fault.IpHeader 1 17)))
+internet_way_onward protocol = seen_onward _ (λ _. (tt, (tt, tt))) _
+    (then_by_onward _ _ no_fragment_onward (λ _. then_by_onward _ _ (unchecked_onward fault.IpHeader 1 64) (λ _. fixed_onward fault.IpHeader 1 protocol)))
 
-pub internet_header_sound : IsSound internet_header
+pub internet_header_sound : (protocol : ℕ) → IsSound (internet_header protocol)
 unfolding internet_header
-internet_header_sound = seen_sound _ _ _ (λ header. refl) (then_by_sound _ _ internet_size_sound (λ _. then_by_sound _ _ internet_way_sound
+internet_header_sound protocol = seen_sound _ _ _ (λ header. refl) (then_by_sound _ _ internet_size_sound (λ _. then_by_sound _ _ (internet_way_sound protocol)
     (λ _. then_by_sound _ _ (number_sound fault.IpHeader 2) (λ _. then_by_sound _ _ (raw_sound fault.IpHeader 4) (λ _. raw_sound fault.IpHeader 4)))))
 
-internet_header_onward : IsOnward internet_header
+internet_header_onward : (protocol : ℕ) → IsOnward (internet_header protocol)
 unfolding internet_header
-internet_header_onward = seen_onward _ (λ (h : InternetHeader). (h.size, (tt, (h.checksum, (h.source, h.destination))))) _
-    (then_by_onward _ _ internet_size_onward (λ _. then_by_onward _ _ internet_way_onward
+internet_header_onward protocol = seen_onward _ (λ (h : InternetHeader). (h.size, (tt, (h.checksum, (h.source, h.destination))))) _
+    (then_by_onward _ _ internet_size_onward (λ _. then_by_onward _ _ (internet_way_onward protocol)
     (λ _. then_by_onward _ _ (number_onward fault.IpHeader 2) (λ _. then_by_onward _ _ (raw_onward fault.IpHeader 4) (λ _. raw_onward fault.IpHeader 4)))))
 
 pub udp_header_sound : IsSound udp_header
@@ -157,18 +157,23 @@ udp_sound = then_by_sound _ _ udp_header_sound (λ (header : UdpHeader). raw_sou
 segment_sound : (header : InternetHeader) → IsSound (segment header)
 segment_sound header = seen_sound _ _ _ (λ _. refl) (checked_sound (λ (x : (UdpHeader × List ℕ) × List ℕ). passes header x.0.0 x.1) fault.UdpChecksum _ (kept_sound udp udp_sound))
 
-inside_sound : (header : InternetHeader × List ℕ) → IsSoundWhole (inside header)
-inside_sound header = allowed_sound _ fault.IpChecksum _ (loose_sound (segment header.0) (segment_sound header.0))
+-- packets with a sound content are sound, and octets after them change nothing
+module _ {A : Type 0} (protocol : ℕ) (content : InternetHeader → Whole FrameFault A) where
+  pub packet_with_sound : ((header : InternetHeader) → IsSoundWhole (content header)) → IsSound (packet_with protocol content)
+  packet_with_sound sound = then_by_sound _ _ (kept_sound (internet_header protocol) (internet_header_sound protocol))
+      (λ (header : InternetHeader × List ℕ). cut_sound fault.IpHeader header.0.size _ (allowed_sound _ fault.IpChecksum _ (sound header.0)))
+
+  packet_with_onward : IsOnward (packet_with protocol content)
+  packet_with_onward = then_by_onward _ _ (kept_onward (internet_header protocol) (internet_header_onward protocol))
+      (λ (header : InternetHeader × List ℕ). cut_onward fault.IpHeader header.0.size _)
 
 pub packet_sound : IsSound packet
 unfolding packet
-packet_sound = then_by_sound _ _ (kept_sound internet_header internet_header_sound)
-    (λ (header : InternetHeader × List ℕ). cut_sound fault.IpHeader header.0.size (inside header) (inside_sound header))
+packet_sound = packet_with_sound 17 (λ header. loose (segment header)) (λ header. loose_sound (segment header) (segment_sound header))
 
 pub packet_onward : IsOnward packet
 unfolding packet
-packet_onward = then_by_onward _ _ (kept_onward internet_header internet_header_onward)
-    (λ (header : InternetHeader × List ℕ). cut_onward fault.IpHeader header.0.size (inside header))
+packet_onward = packet_with_onward 17 (λ header. loose (segment header))
 
 -- ---- the contents
 

@@ -7,3 +7,5 @@ pub mod Frames
 pub mod Fitting
 pub mod Fits
 pub mod ReadBack
+pub mod Headed
+pub mod Ports

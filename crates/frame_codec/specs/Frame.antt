@@ -85,7 +85,7 @@ arp = variant ArpPacket arp_in (loose arp_packet)
 -- the headers of a datagram between these ends
 abbrev pub headers_of : Endpoint → Endpoint → List ℕ → InternetHeader × UdpHeader
 headers_of source destination body = (
-  internet_sealed (record { size = length body + 8; checksum = 0; source = source.address; destination = destination.address }),
+  internet_sealed 17 (record { size = length body + 8; checksum = 0; source = source.address; destination = destination.address }),
   record { source = source.port; destination = destination.port; size = length body; checksum = 0 },
 )
 
@@ -93,7 +93,7 @@ headers_of source destination body = (
 abbrev pub packet_of : Endpoint → Endpoint → List ℕ → (InternetHeader × List ℕ) × (UdpHeader × List ℕ)
 packet_of source destination body =
     let headers = headers_of source destination body in
-    ((headers.0, internet_header.write headers.0 []), (udp_sealed headers.0 headers.1 body, body))
+    ((headers.0, (internet_header 17).write headers.0 []), (udp_sealed headers.0 headers.1 body, body))
 
 -- the packet in a content of UDP
 abbrev pub packet_in : Content → Option ((InternetHeader × List ℕ) × (UdpHeader × List ℕ))
@@ -159,6 +159,10 @@ pub record IsFrame (bytes : List ℕ) (meaning : Meaning) : Type 0 where
   pub spelled : layers.Spells bytes meaning
   pub short : length bytes ≤ longest meaning.tag
 
+-- the Ethernet header of a frame and what follows it, or the fault of a frame whose header is incomplete or that is too long
+unfoldable pub headed : List ℕ → Result (EthernetHeader × List ℕ) FrameFault
+headed bytes = ethernet.read bytes >>= λ frame. if nat_lt (longest frame.0.tag) (length bytes) then Err TooLong else Ok frame
+
 -- the meaning of a frame, or its first fault: the Ethernet header is read, then the length is judged, then the content
 -- is read
 unfoldable pub frame_of : List ℕ → Result Meaning FrameFault
@@ -169,6 +173,17 @@ frame_of bytes = ethernet.read bytes >>= λ header.
 abbrev pub opened_as : OpenFrame → Result Meaning FrameFault
 opened_as frame = (content_as frame.kind).read frame.content.now >>= λ content.
     Ok (record { destination = frame.destination; source = frame.source; tag = frame.tag; content = content })
+
+-- a content, if it is a datagram for this port
+abbrev pub to_port : ℕ → Content → Option Content
+to_port port (RealTime frame_id body) = None
+to_port port (ArpPacket asked) = None
+to_port port (UdpDatagram source destination body) = if destination.port == port then Some (UdpDatagram source destination body) else None
+
+-- a content that was read, if it is a datagram for this port
+abbrev pub sent_to : ℕ → Result Content FrameFault → Option Content
+sent_to port (Ok content) = to_port port content
+sent_to port (Err fault) = None
 
 -- ---- what is written
 
@@ -181,6 +196,10 @@ content_size (UdpDatagram source destination body) = 28 + length body
 -- the content fits a frame, whether tagged or not
 abbrev pub FitsFrame : Meaning → Type 0
 FitsFrame meaning = content_size meaning.content ≤ 1500
+
+-- padded with zeros to 60 bytes
+abbrev pub padded : List ℕ → List ℕ
+padded bytes = bytes ++ replicate (60 - length bytes) 0
 
 -- the zeros after a frame that would be shorter than 60 bytes
 abbrev pub padding_of : Meaning → List ℕ

@@ -26,15 +26,15 @@ internet_size = seen (λ x. x.1.1.0) (λ size. (tt, (tt, (size, tt))))
 abbrev pub no_fragment : Codec FrameFault (Unit {0})
 no_fragment = seen (λ _. tt) (λ _. 0x4000) (checked (λ word. word % 0x4000 == 0) IpHeader (number IpHeader 2))
 
--- not a fragment, any time to live, protocol 17
-unfoldable pub internet_way : Codec FrameFault (Unit {0})
-internet_way = seen (λ _. tt) (λ _. (tt, (tt, tt))) (no_fragment ⨾ unchecked IpHeader 1 64 ⨾ fixed IpHeader 1 17)
+-- not a fragment, any time to live, this protocol
+unfoldable pub internet_way : ℕ → Codec FrameFault (Unit {0})
+internet_way protocol = seen (λ _. tt) (λ _. (tt, (tt, tt))) (no_fragment ⨾ unchecked IpHeader 1 64 ⨾ fixed IpHeader 1 protocol)
 
--- a header; its checksum is judged over all of its octets
-unfoldable pub internet_header : Codec FrameFault InternetHeader
-internet_header = seen (λ x. record { size = x.0; checksum = x.1.1.0; source = x.1.1.1.0; destination = x.1.1.1.1 })
+-- a header of a packet of this protocol; its checksum is judged over all of its octets
+unfoldable pub internet_header : ℕ → Codec FrameFault InternetHeader
+internet_header protocol = seen (λ x. record { size = x.0; checksum = x.1.1.0; source = x.1.1.1.0; destination = x.1.1.1.1 })
     (λ header. (header.size, (tt, (header.checksum, (header.source, header.destination)))))
-    (internet_size ⨾ internet_way ⨾ number IpHeader 2 ⨾ raw IpHeader 4 ⨾ raw IpHeader 4)
+    (internet_size ⨾ internet_way protocol ⨾ number IpHeader 2 ⨾ raw IpHeader 4 ⨾ raw IpHeader 4)
 
 -- ---- a datagram of UDP
 
@@ -63,19 +63,21 @@ segment internet = seen (λ x. x.0) (λ datagram. (datagram, udp.write datagram 
 
 -- ---- a packet
 
--- what follows a header, if the sum of the header's octets is all ones; the octets after the datagram are ignored
-abbrev pub inside : InternetHeader × List ℕ → Whole FrameFault (UdpHeader × List ℕ)
-inside header = allowed (ones_sum_of header.1 == 65535) IpChecksum (loose (segment header.0))
+-- a packet of this protocol: a header with its octets, and what it carries in the rest of the total length, if the sum of
+-- the header's octets is all ones
+abbrev pub packet_with : {A : Type 0} → ℕ → (InternetHeader → Whole FrameFault A) → Codec FrameFault ((InternetHeader × List ℕ) × A)
+packet_with protocol content =
+    then_by (kept (internet_header protocol)) (λ header. cut IpHeader header.0.size (allowed (ones_sum_of header.1 == 65535) IpChecksum (content header.0)))
 
--- a header with its octets, and the content in the rest of the total length
+-- a packet with a datagram; the octets after the datagram are ignored
 unfoldable pub packet : Codec FrameFault ((InternetHeader × List ℕ) × (UdpHeader × List ℕ))
-packet = then_by (kept internet_header) (λ header. cut IpHeader header.0.size (inside header))
+packet = packet_with 17 (λ header. loose (segment header))
 
 -- ---- what is written
 
--- the header of a packet with its checksum in place of the 0 in that field
-abbrev pub internet_sealed : InternetHeader → InternetHeader
-internet_sealed header = record header { checksum = complement (ones_sum_of (internet_header.write header [])) }
+-- the header of a packet of this protocol with its checksum in place of the 0 in that field
+abbrev pub internet_sealed : ℕ → InternetHeader → InternetHeader
+internet_sealed protocol header = record header { checksum = complement (ones_sum_of ((internet_header protocol).write header [])) }
 
 -- the header of a datagram with its checksum in place of the 0 in that field
 abbrev pub udp_sealed : InternetHeader → UdpHeader → List ℕ → UdpHeader

@@ -10,7 +10,7 @@ use pn_values::Mac;
 use wire::{octets_at, u16_at};
 
 /// The EtherType of ARP.
-pub(crate) const ADDRESS_RESOLUTION: u16 = 0x0806;
+pub const ADDRESS_RESOLUTION: u16 = 0x0806;
 
 /// Ethernet, as a hardware type.
 const ETHERNET: u16 = 1;

@@ -13,18 +13,22 @@ use wire::{octets_at, u16_at};
 pub(crate) const VLAN: u16 = 0x8100;
 
 /// The EtherType of PROFINET.
-pub(crate) const PROFINET: u16 = 0x8892;
+pub const PROFINET: u16 = 0x8892;
 
 /// How many octets an Ethernet header without a tag has.
 const LEAST: usize = 14;
 
 /// The addresses, the word of the tag if there is one, and the EtherType.
 #[derive(Clone, Copy)]
-pub(crate) struct EthernetHeader {
-    pub(crate) destination: Mac,
-    pub(crate) source: Mac,
-    pub(crate) tag: Option<u16>,
-    pub(crate) ether_type: u16,
+pub struct EthernetHeader {
+    /// The destination address.
+    pub destination: Mac,
+    /// The source address.
+    pub source: Mac,
+    /// The tag control information of its VLAN tag (IEEE 802.1Q, 9.6), if it has one.
+    pub tag: Option<u16>,
+    /// The EtherType of what follows.
+    pub ether_type: u16,
 }
 
 /// The kind of content that follows the Ethernet header, by its EtherType.

@@ -8,7 +8,7 @@ use crate::FrameFault;
 use wire::{u8_at, u16_at};
 
 /// The octets after a number of one octet that must have this value.
-pub(crate) fn fixed_u8_at(bytes: &[u8], value: u8, fault: FrameFault) -> Result<&[u8], FrameFault>
+pub fn fixed_u8_at(bytes: &[u8], value: u8, fault: FrameFault) -> Result<&[u8], FrameFault>
     ensures { Gives (λ x. (tt, x.now)) result ((fixed fault 1 value).read bytes.now) }
 {
     let (number, rest) = u8_at(bytes, fault)?;

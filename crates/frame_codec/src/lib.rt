@@ -23,23 +23,27 @@ mod sum;
 mod udp;
 mod writing;
 
-pub use arp::{Arp, ArpOperation, Holder};
+pub use arp::{ADDRESS_RESOLUTION, Arp, ArpOperation, Holder};
 use arrayvec::ArrayVec;
-pub use ethernet::ContentKind;
+pub use ethernet::{ContentKind, EthernetHeader, PROFINET};
 pub use fault::FrameFault;
+pub use fields::fixed_u8_at;
 pub use frame::Frame;
 pub use frame_id::{
     ALARM_HIGH, ALARM_LOW, DCP_GET_SET, DCP_IDENTIFY_REQUEST, DCP_IDENTIFY_RESPONSE, is_alarm,
     is_cyclic,
 };
 pub use frame_law::frames_are_read;
+pub use internet::{INTERNET, InternetHeader, internet_header_at, put_internet_header};
 pub use law::{fitting_frames_are_read, formats_are_sound};
 pub use layered::{Layered, OpenFrame, Payload, Pieces, RealTimeFrame};
 pub use outbox::Outbox;
-pub use reading::{datagram_at, frame_id_at, open, packet_at, read, read_real_time};
+pub use reading::{
+    datagram_at, datagram_to, frame_id_at, header_in, open, packet_at, read, read_real_time,
+};
 pub use sum::ones_sum;
 pub use udp::{Caller, Endpoint, RPC_PORT, Udp};
-pub use writing::write;
+pub use writing::{write, write_under};
 
 /// The octets of a received frame. There is room for one more than a valid frame may have.
 pub type Bytes = ArrayVec<u8, 1519>;

@@ -1,16 +1,18 @@
 //! From octets to layers.
-ghost use Rattle.std.specs.Prelude.{◌≡◌, ◌≤◌, ◌++◌, List, ℕ, length, Err, IfErr, IfNone, IfOk, IfSome, Ok};
+ghost use Rattle.std.specs.Prelude.{◌≡◌, ◌≤◌, ◌++◌, List, ℕ, length, Err, IfErr, IfNone, IfOk, IfSome, None, Ok, false};
+ghost use Rattle.std.specs.Option.{option_map};
 ghost use Rattle.wire.specs.Codec.{Gives};
 ghost use Rattle.frame_codec.specs.Meaning.{ArpPacket, IsNoRealTime, Meaning, RealTime, UdpDatagram, content_of, meaning_as, meaning_of};
-ghost use Rattle.frame_codec.specs.Frame.{IsFrame, arp, content_as, datagram, frame_of, longest, opened_as, real_time, with_behind};
+ghost use Rattle.frame_codec.specs.Frame.{IsFrame, arp, content_as, datagram, frame_of, headed, longest, opened_as, real_time, sent_to, with_behind};
 
 use crate::arp::arp_at;
 use crate::ethernet::{content_kind, header_at, longest_of};
-use crate::internet::internet_header_at;
+use crate::internet::{UDP, internet_header_at};
 use crate::sum::ones_sum;
-use crate::udp::segment_at;
+use crate::udp::{segment_at, udp_header_at};
 use crate::{
-    Arp, ContentKind, Endpoint, FrameFault, Layered, OpenFrame, Payload, RealTimeFrame, Udp,
+    Arp, ContentKind, Endpoint, EthernetHeader, FrameFault, Layered, OpenFrame, Payload,
+    RealTimeFrame, Udp,
 };
 use wire::{front, split, u16_at};
 
@@ -40,7 +42,7 @@ pub fn packet_at(content: &[u8]) -> Result<Arp, FrameFault>
 pub fn datagram_at(content: &[u8]) -> Result<Udp<'_>, FrameFault>
     ensures { Gives (λ udp. UdpDatagram udp.source udp.destination udp.body.now) result (datagram.read content.now) }
 {
-    let (internet, rest) = internet_header_at(content)?;
+    let (internet, rest) = internet_header_at(content, UDP)?;
     let (packet, _) = split(rest, internet.size as usize, FrameFault::IpHeader)?;
     // The checksum is judged by the sum of all words, itself included. So a checksum sent as all ones in place of 0
     // passes.
@@ -61,6 +63,41 @@ pub fn datagram_at(content: &[u8]) -> Result<Udp<'_>, FrameFault>
     })
 }
 
+/// Whether a packet of IPv4 may be a datagram for this port, by its headers alone: no checksum is judged.
+#[tactic(auto, using(crate::proofs::Ports::no_header, crate::proofs::Ports::no_packet, crate::proofs::Ports::no_datagram, crate::proofs::Ports::another_port))]
+fn may_be_to(content: &[u8], port: u16) -> bool
+    ensures { result ≡ false → sent_to port (datagram.read content.now) ≡ None }
+{
+    let Ok((internet, rest)) = internet_header_at(content, UDP) else {
+        return false;
+    };
+    let Ok((packet, _)) = split(rest, internet.size as usize, FrameFault::IpHeader) else {
+        return false;
+    };
+    let Ok((header, _)) = udp_header_at(packet) else {
+        return false;
+    };
+    header.destination == port
+}
+
+/// A datagram of UDP for this port in a packet of IPv4. A datagram for another port is known by its headers, before a
+/// checksum is computed.
+#[inline(never)]
+pub fn datagram_to(content: &[u8], port: u16) -> Option<Udp<'_>>
+    ensures { option_map (λ udp. UdpDatagram udp.source udp.destination udp.body.now) result ≡ sent_to port (datagram.read content.now) }
+{
+    if !may_be_to(content, port) {
+        return None;
+    }
+    let Ok(udp) = datagram_at(content) else {
+        return None;
+    };
+    if udp.destination.port != port {
+        return None;
+    }
+    Some(udp)
+}
+
 /// The content, read as this kind.
 #[inline(always)]
 fn payload_at(kind: ContentKind, content: &[u8]) -> Result<Payload<'_>, FrameFault>
@@ -76,20 +113,31 @@ fn payload_at(kind: ContentKind, content: &[u8]) -> Result<Payload<'_>, FrameFau
     }
 }
 
+/// Reads the Ethernet header of a frame and judges its length. Returns the header and the octets after it, whatever its
+/// EtherType.
+#[inline(always)]
+#[tactic(auto, unfolding(crate::specs::Frame::headed))]
+pub fn header_in(bytes: &[u8]) -> Result<(EthernetHeader, &[u8]), FrameFault>
+    ensures { Gives (λ x. (x.0, x.1.now)) result (headed bytes.now) }
+{
+    let (header, content) = header_at(bytes)?;
+    if bytes.len() > longest_of(header.tag) {
+        return Err(FrameFault::TooLong);
+    }
+    Ok((header, content))
+}
+
 /// Reads the Ethernet header of a frame and judges its length. The content is read by a separate call: a `Layered` has
 /// room for each kind of content and would be moved through memory.
 #[inline(always)]
-#[tactic(auto, unfolding(crate::specs::Frame::frame_of, crate::specs::Frame::layers))]
+#[tactic(auto, unfolding(crate::specs::Frame::frame_of, crate::specs::Frame::headed, crate::specs::Frame::layers))]
 pub fn open(bytes: &[u8]) -> Result<OpenFrame<'_>, FrameFault>
     // On success the octets are this frame, if its content can be read.
     ensures found { IfOk result (λ frame. frame_of bytes.now ≡ opened_as frame) }
     // On an error, this is the fault of the octets.
     ensures fault { IfErr result (λ fault. frame_of bytes.now ≡ Err fault) }
 {
-    let (ethernet, content) = header_at(bytes)?;
-    if bytes.len() > longest_of(ethernet.tag) {
-        return Err(FrameFault::TooLong);
-    }
+    let (ethernet, content) = header_in(bytes)?;
     let kind = content_kind(ethernet.ether_type)?;
     Ok(OpenFrame {
         destination: ethernet.destination,

@@ -71,7 +71,7 @@ pub(crate) struct UdpHeader {
 
 /// A header and the octets after it.
 #[tactic(auto, unfolding(crate::specs::Internet::udp_header))]
-fn udp_header_at(bytes: &[u8]) -> Result<(UdpHeader, &[u8]), FrameFault>
+pub(crate) fn udp_header_at(bytes: &[u8]) -> Result<(UdpHeader, &[u8]), FrameFault>
     ensures gives { Gives (λ x. (x.0, x.1.now)) result (udp_header.read bytes.now) }
     ensures most { IfOk result (λ x. x.0.size + 8 ≤ 65535) }
 {

@@ -1,13 +1,13 @@
 //! From layers to octets.
-ghost use Rattle.std.specs.Prelude.{◌≡◌, ◌+◌, ◌-◌, ◌≢◌, ◌≤◌, List, ℕ, [], ◌++◌, length, replicate, Ok};
+ghost use Rattle.std.specs.Prelude.{◌≡◌, ◌+◌, ◌≢◌, ◌≤◌, List, ℕ, [], ◌++◌, length, Ok};
 ghost use Rattle.arrayvec.specs.ArrayVec.{array_vec_len};
 ghost use Rattle.frame_codec.specs.Meaning.{UdpDatagram, content_of, meaning_in, meaning_of};
 ghost use Rattle.frame_codec.specs.Frame.{IsFrame, IsReadBack, FitsFrame, content_size, content_under, datagram, ethernet, frame_of};
-ghost use Rattle.frame_codec.specs.Frame.{frame_bytes, layers, longest, padding_of, real_time, tag_and_type, type_of, vlan, with_behind};
+ghost use Rattle.frame_codec.specs.Frame.{frame_bytes, layers, longest, padded, padding_of, real_time, tag_and_type, type_of, vlan, with_behind};
 
 use crate::arp::{ADDRESS_RESOLUTION, put_arp};
 use crate::ethernet::{EthernetHeader, PROFINET, VLAN};
-use crate::internet::{INTERNET, InternetHeader, put_internet_header};
+use crate::internet::{INTERNET, InternetHeader, UDP, put_internet_header};
 use crate::udp::{UdpHeader, put_udp_header};
 use crate::{Frame, Layered, Payload, Pieces, Udp};
 use arrayvec::ArrayVec;
@@ -87,7 +87,7 @@ fn put_datagram(frame: &mut Frame, udp: &Udp)
         source: udp.source.address,
         destination: udp.destination.address,
     }
-    .seal();
+    .seal(UDP);
     let header = UdpHeader {
         source: udp.source.port,
         destination: udp.destination.port,
@@ -96,7 +96,7 @@ fn put_datagram(frame: &mut Frame, udp: &Udp)
     }
     .seal(&internet, udp.body);
     let mut front: ArrayVec<u8, 28> = ArrayVec::new();
-    put_internet_header(&mut front, &internet);
+    put_internet_header(&mut front, UDP, &internet);
     put_udp_header(&mut front, &header);
     frame.append(front.as_slice());
     frame.append(udp.body);
@@ -143,7 +143,7 @@ static ZEROS: [u8; 60] = [0; 60];
 /// Pads with zeros to at least 60 octets.
 #[inline(always)]
 fn pad(frame: &mut Frame)
-    ensures { frame.new.items ≡ frame.old.items ++ replicate (60 - length frame.old.items) 0 }
+    ensures { frame.new.items ≡ padded frame.old.items }
 {
     // The shortest frame of Ethernet has 64 octets, 4 of them the check sequence, which the interface appends.
     if frame.len() < 60 {
@@ -216,5 +216,20 @@ pub fn write(layered: &Layered) -> Frame
 {
     let mut frame = Frame::new();
     fill(&mut frame, layered);
+    frame
+}
+
+/// Returns the frame with this Ethernet header and these octets after it, given in two pieces, padded with zeros to at least
+/// 60 octets.
+pub fn write_under(header: &EthernetHeader, front: &[u8], behind: &[u8]) -> Frame
+    requires kind { header.now.ether_type ≢ vlan }
+    requires room { length front.now + length behind.now ≤ 1500 }
+    ensures { result.items ≡ padded (ethernet.write header.now (front.now ++ behind.now)) }
+{
+    let mut frame = Frame::new();
+    put_header(&mut frame, header);
+    frame.append(front);
+    frame.append(behind);
+    pad(&mut frame);
     frame
 }

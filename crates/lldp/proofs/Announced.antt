@@ -11,15 +11,16 @@ use Rattle.byteorder.specs.Endian.{big_bytes}
 use Rattle.wire.specs.Codec.{Codec, IsSound}
 use Rattle.pn_values.specs.declared.mac.Mac.{Mac}
 use Rattle.pn_values.specs.IpSuite.{is_zero}
-use Rattle.frame_codec.specs.Frame.{mac, tag_and_type}
+use Rattle.frame_codec.specs.Frame.{ethernet, headed, mac, tag_and_type}
+use Rattle.frame_codec.proofs.Headed.{headed_is}
+use Rattle.frame_codec.proofs.Layers.{ethernet_sound}
 use Rattle.lldp.specs.declared.station.Link.{Link}
 use Rattle.lldp.specs.Tlv.{Tlv, Id, type_of, tlv, tlv_of, typed, id_octets, id, lifetime, chassis_mac}
 use Rattle.lldp.specs.Message.{IsOther, write_tlvs, message}
 use Rattle.lldp.specs.Peer.{mac_in, mac_or, mac_told, told_by, told_from}
-use Rattle.lldp.specs.Frame.{is_lldp, link, told_in}
-use Rattle.lldp.specs.Announcement.{Station, IsSayable, address_tlvs, announced, announcement, header_of, link_tlvs, padded, port_status, told_of}
+use Rattle.lldp.specs.Frame.{told_in}
+use Rattle.lldp.specs.Announcement.{Station, IsSayable, address_tlvs, announced, announcement, header_of, link_tlvs, port_status, told_of}
 use Rattle.lldp.proofs.Sound.{chassis_mac_sound, id_sound, lifetime_sound, message_sound, others_written}
-use Rattle.lldp.proofs.Ethernet.{link_sound}
 use Rattle.lldp.proofs.Written.{mac_octets}
 
 -- ---- what fits
@@ -140,31 +141,37 @@ mac_is station is =
 
 -- ---- the frame
 
-header_fits : (own : Mac) → length own.octets ≡ 6 → link.Fits (header_of own)
-unfolding link mac tag_and_type
+header_fits : (own : Mac) → length own.octets ≡ 6 → ethernet.Fits (header_of own)
+unfolding ethernet mac tag_and_type
 header_fits own e = (refl, (e, (omega arith, refl)))
 
-lldp_is : (own : Mac) (station : Station) (size : ℕ) → size ≤ 1514 → pointwise nat_eq station.mac.octets own.octets ≡ false → is_lldp own size (header_of station.mac) ≡ true
-lldp_is own station size few other = let short : nat_le size 1514 ≡ true = grind (arith, nat_tests) in rw (short, other) refl
+header_size : (own : Mac) → length own.octets ≡ 6 → ethernet.size (header_of own) ≡ 14
+unfolding ethernet mac tag_and_type
+header_size own e = omega (arith, e)
 
-frame_parts : (station : Station) → announcement station ≡ link.write (header_of station.mac) (message.write (announced station) ++ replicate (60 - length (link.write (header_of station.mac) (message.write (announced station)))) 0)
+frame_parts : (station : Station) → announcement station
+    ≡ ethernet.write (header_of station.mac) (message.write (announced station) ++ replicate (60 - length (ethernet.write (header_of station.mac) (message.write (announced station)))) 0)
 unfolding announcement
-frame_parts station = inside link (header_of station.mac) (message.write (announced station)) _ link_sound
+frame_parts station = inside ethernet (header_of station.mac) (message.write (announced station)) _ ethernet_sound
 
-pub heard_as_meant : (own : Mac) (station : Station) → IsSayable station → length (announcement station) ≤ 1514 → pointwise nat_eq station.mac.octets own.octets ≡ false
+-- a message with its header and its padding is short
+short : (own : Mac) (body : List ℕ) → length own.octets ≡ 6 → length body ≤ 307 → length (ethernet.write (header_of own) body ++ replicate (60 - length (ethernet.write (header_of own) body)) 0) ≤ 1514
+short own body e few =
+    let octets = ethernet.write (header_of own) body in
+    let size : length octets ≡ ethernet.size (header_of own) + length body = ethernet_sound.sized (header_of own) body in
+    omega (arith, few, size, header_size own e, length-append octets (replicate (60 - length octets) 0), length-replicate {A = ℕ} (60 - length octets) 0)
+
+pub heard_as_meant : (own : Mac) (station : Station) → IsSayable station → length (message.write (announced station)) ≤ 307 → pointwise nat_eq station.mac.octets own.octets ≡ false
     → told_in own (announcement station) ≡ Some (told_of station)
-unfolding told_in
+unfolding told_in announcement
 heard_as_meant own station is few other =
     let body = message.write (announced station) in
-    let zeros = replicate (60 - length (link.write (header_of station.mac) body)) 0 in
-    let parts : announcement station ≡ link.write (header_of station.mac) (body ++ zeros) = frame_parts station in
-    let header : link.read (announcement station) ≡ Ok (header_of station.mac, body ++ zeros) =
-    ap link.read parts ∙ link_sound.again _ (header_of station.mac) (body ++ zeros) (link_sound.written (header_of station.mac) (body ++ zeros) (header_fits station.mac is.mac)) in
+    let zeros = replicate (60 - length (ethernet.write (header_of station.mac) body)) 0 in
+    let parts : announcement station ≡ ethernet.write (header_of station.mac) (body ++ zeros) = frame_parts station in
+    let read : ethernet.read (announcement station) ≡ Ok (header_of station.mac, body ++ zeros) =
+    ap ethernet.read parts ∙ ethernet_sound.again _ (header_of station.mac) (body ++ zeros) (ethernet_sound.written (header_of station.mac) (body ++ zeros) (header_fits station.mac is.mac)) in
+    let header : headed (announcement station) ≡ Ok (header_of station.mac, body ++ zeros) = headed_is (announcement station) (header_of station.mac) (body ++ zeros) read (short station.mac body is.mac few) in
     let said : message.read (body ++ zeros) ≡ Ok (announced station) = message_sound.again (body ++ zeros) (announced station) (message_spelled station zeros is) in
     let told : told_from station.mac (body ++ zeros) ≡ Ok (told_by station.mac (announced station)) = rw said refl in
     let meant : told_by station.mac (announced station) ≡ told_of station = ap (λ (m : Mac). record (told_of station) { peer = record { chassis = (told_of station).peer.chassis; port = (told_of station).peer.port; mac = m } }) (mac_is station is) in
-    rw (header, lldp_is own station (length (announcement station)) few other, told) (ap (λ t. Some t) meant)
-
--- a short frame with its padding is short
-pub padded_few : (xs : List ℕ) → length xs ≤ 321 → length (padded xs) ≤ 1514
-padded_few xs few = omega (arith, few, length-append xs (replicate (60 - length xs) 0), length-replicate {A = ℕ} (60 - length xs) 0)
+    rw (header, other, told) (ap (λ t. Some t) meant)

@@ -1,5 +1,4 @@
 pub mod Sound
-pub mod Ethernet
 pub mod Written
 pub mod Leaping
 pub mod Hearing

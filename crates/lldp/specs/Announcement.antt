@@ -1,14 +1,15 @@
 -- What a station says of itself (IEC 61158-6-10, 4.11).
-use Rattle.std.specs.Prelude.{◌≡◌, ◌≤◌, ◌-◌, ◌==◌, ℕ, List, [], ◌∷◌, ◌++◌, length, replicate, Option, Some, None, if◌then◌else◌}
+use Rattle.std.specs.Prelude.{◌≡◌, ◌≤◌, ◌==◌, ℕ, List, [], ◌∷◌, ◌++◌, length, Option, Some, None, if◌then◌else◌}
 use Rattle.byteorder.specs.Endian.{big_bytes}
 use Rattle.pn_values.specs.declared.mac.Mac.{Mac}
 use Rattle.pn_values.specs.IpSuite.{is_zero}
-use Rattle.lldp.specs.declared.frame.Header.{Header}
+use Rattle.frame_codec.specs.declared.ethernet.EthernetHeader.{EthernetHeader}
+use Rattle.frame_codec.specs.Frame.{ethernet, padded}
 use Rattle.lldp.specs.declared.station.Link.{Link}
 use Rattle.lldp.specs.Tlv.{Tlv, Id, tlv_of, chassis_mac}
 use Rattle.lldp.specs.Message.{Message, message}
 use Rattle.lldp.specs.Peer.{Told, chassis_text}
-use Rattle.lldp.specs.Frame.{nearest, lldp_type, link}
+use Rattle.lldp.specs.Frame.{nearest, lldp_type}
 
 -- What an announcement says: the MAC address, the running name, the running IP address, and what the host says of the link.
 pub record Station : Type 0 where
@@ -62,13 +63,9 @@ abbrev pub told_of : Station → Told
 told_of station = record { peer = record { chassis = chassis_text (chassis_of station); port = port_name; mac = station.mac }; lifetime = 20 }
 
 -- the header of a frame from this MAC address
-abbrev pub header_of : Mac → Header
+abbrev pub header_of : Mac → EthernetHeader
 header_of mac = record { destination = record { octets = nearest }; source = mac; tag = None; ether_type = lldp_type }
-
--- padded with zeros to 60 octets
-abbrev pub padded : List ℕ → List ℕ
-padded octets = octets ++ replicate (60 - length octets) 0
 
 -- The frame by which a station says this.
 unfoldable pub announcement : Station → List ℕ
-announcement station = padded (link.write (header_of station.mac) (message.write (announced station)))
+announcement station = padded (ethernet.write (header_of station.mac) (message.write (announced station)))

@@ -5,23 +5,20 @@ ghost use Rattle.pn_values.specs.declared.mac.Mac.{Mac};
 ghost use Rattle.arrayvec.specs.ArrayVec.{array_vec_len};
 ghost use Rattle.lldp.specs.Tlv.{tlv, tlv_of, id, lifetime};
 ghost use Rattle.lldp.specs.Message.{message, write_tlvs};
-ghost use Rattle.lldp.specs.Frame.{link as link_format, told_in};
-ghost use Rattle.lldp.specs.Announcement.{address_tlvs, announced, announcement as announcement_of, chassis_of, header_of, link_tlvs, own_chassis as own_chassis_of, padded, told_of};
+ghost use Rattle.lldp.specs.Frame.{told_in};
+ghost use Rattle.lldp.specs.Announcement.{address_tlvs, announced, announcement as announcement_of, chassis_of, link_tlvs, own_chassis as own_chassis_of, told_of};
 
 use crate::Link;
 use crate::frame::{LLDP, NEAREST};
 use crate::neighbour::hyphenated;
 use crate::tlv::{CHASSIS, LIFETIME, PORT, TYPE};
 use arrayvec::ArrayVec;
-use frame_codec::Frame;
+use frame_codec::{EthernetHeader, Frame, write_under};
 use pn_values::{Mac, StationName};
 use wire::{append, append_u8, append_u16, join};
 
 /// The name of the only port.
 pub const PORT_NAME: [u8; 8] = *b"port-001";
-
-/// As many zeros as the shortest frame has octets.
-static ZEROS: [u8; 60] = [0; 60];
 
 /// The type of TLVs whose meaning an organization defines.
 const ORGANIZATION: u16 = 127;
@@ -156,28 +153,6 @@ fn message_of(mac: Mac, name: &[u8], address: [u8; 4], link: Option<Link>) -> Oc
     out
 }
 
-/// Pads with zeros to at least 60 octets.
-fn pad(frame: &mut Frame)
-    ensures { frame.new.items ≡ padded frame.old.items }
-{
-    // The shortest frame of Ethernet has 64 octets, 4 of them the check sequence, which the interface appends.
-    if frame.len() < 60 {
-        frame.append(&ZEROS[frame.len()..]);
-    }
-}
-
-/// The Ethernet header of an announcement.
-#[tactic(auto, unfolding(crate::specs::Frame::link, frame_codec::specs::Frame::mac, frame_codec::specs::Frame::tag_and_type))]
-fn header(mac: Mac) -> ArrayVec<u8, 14>
-    ensures { result.items ≡ link_format.write (header_of mac) [] }
-{
-    let mut out: ArrayVec<u8, 14> = ArrayVec::new();
-    append(&mut out, &NEAREST.octets);
-    append(&mut out, &mac.octets);
-    append_u16(&mut out, LLDP);
-    out
-}
-
 /// The frame by which a station announces itself: its MAC address, running name, running IP address (zeros if there is
 /// none), and what the host knows of the link.
 pub fn announcement(mac: Mac, name: &StationName, address: [u8; 4], link: Option<Link>) -> Frame
@@ -187,11 +162,12 @@ pub fn announcement(mac: Mac, name: &StationName, address: [u8; 4], link: Option
     ensures heard { (own : Mac) → pointwise nat_eq mac.octets own.octets ≡ false →
         told_in own result.items ≡ Some (told_of (record { mac = mac; name = name.now; address = address; link = link })) }
 {
-    let header = header(mac);
     let message = message_of(mac, name.as_bytes(), address, link);
-    let mut frame = Frame::new();
-    frame.append(header.as_slice());
-    frame.append(message.as_slice());
-    pad(&mut frame);
-    frame
+    let header = EthernetHeader {
+        destination: NEAREST,
+        source: mac,
+        tag: None,
+        ether_type: LLDP,
+    };
+    write_under(&header, message.as_slice(), &[])
 }

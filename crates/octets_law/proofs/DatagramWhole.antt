@@ -127,7 +127,7 @@ datagram_whole l whole =
         ),
       ),
     ) in
-    let way : internet_way.Spells (drop 20 l) tt (drop 24 l) = (
+    let way : (internet_way 17).Spells (drop 20 l) tt (drop 24 l) = (
       (tt, (tt, tt)),
       refl,
       (
@@ -140,7 +140,7 @@ datagram_whole l whole =
         ),
       ),
     ) in
-    let internet : internet_header.Spells (drop 14 l) (record { size = size; checksum = number 24 2 l; source = take 4 (drop 26 l); destination = part 30 4 l }) (drop 34 l) = (
+    let internet : (internet_header 17).Spells (drop 14 l) (record { size = size; checksum = number 24 2 l; source = take 4 (drop 26 l); destination = part 30 4 l }) (drop 34 l) = (
       (_, (tt, (_, (_, _)))),
       refl,
       (

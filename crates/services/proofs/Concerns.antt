@@ -1,9 +1,9 @@
 -- What of a frame concerns the services, and what follows from it.
 use Rattle.std.proofs.Common.{◌≡◌, ◌==◌, ◌&&◌, ◌||◌, ℕ, ◌≤◌, Bool, true, false, List, [], length, Option, Some, None, Result, Ok, Err, refl, sym, ap, subst, ◌∙◌}
-use Rattle.std.specs.Prelude.{not, nat_lt, if◌then◌else◌}
+use Rattle.std.specs.Prelude.{not, if◌then◌else◌}
 use Rattle.std.proofs.lemmas.Bool.{eqb-true}
 use Rattle.wire.specs.Codec.{Codec, ◌>>=◌}
-use Rattle.wire.specs.Formats.{◌⨾◌, number}
+use Rattle.wire.specs.Formats.{number}
 use Rattle.wire.specs.Whole.{ends_by, everything, loose, pick, refused as refused_format}
 use Rattle.pn_values.specs.declared.mac.Mac.{Mac}
 use Rattle.frame_codec.specs.declared.fault.FrameFault.{FrameFault}
@@ -11,14 +11,16 @@ use Rattle.frame_codec.specs.declared.fault.FrameFault.TheVariants.{TooShort, Et
 use Rattle.frame_codec.specs.declared.udp.Endpoint.{Endpoint}
 use Rattle.frame_codec.specs.Internet.{packet}
 use Rattle.frame_codec.specs.Meaning.{Content, Meaning, RealTime, ArpPacket, UdpDatagram}
-use Rattle.frame_codec.specs.Frame.{address_resolution, arp, content_under, datagram, datagram_in, ethernet, frame_of, internet, layers, longest, mac, profinet, real_time, tag_and_type, vlan}
-use Rattle.services.specs.declared.link.LinkHeader.{LinkHeader}
+use Rattle.frame_codec.specs.Calls.{call_port}
+use Rattle.frame_codec.specs.Frame.{address_resolution, arp, datagram, datagram_in, frame_of, headed, internet, profinet, real_time, sent_to, vlan}
+use Rattle.frame_codec.specs.declared.ethernet.EthernetHeader.{EthernetHeader}
+use Rattle.frame_codec.proofs.Headed.{frame_is, meaning_behind}
 use Rattle.services.specs.Message.{EchoMeaning, echo}
-use Rattle.services.specs.Echo.{Request, link, reply_frame, request_of}
+use Rattle.services.specs.Echo.{Request, echo_under, reply_frame, request_of, request_under}
 use Rattle.services.specs.State.{State, is_own, is_running}
 use Rattle.services.specs.Answer.{Call, after_layers, answer_to, answers_calls, call_in, call_of, disputes, echo_answer, heard, is_asked, is_called, is_group, is_peer, layers_answer, layers_dispute}
-use Rattle.services.specs.Concern.{Concern, Nothing, OtherType, Calls, Asks, IsShort, concern_after, concern_answer, concern_by, concern_call, concern_disputes, concern_in, concern_under, content_concern, datagram_under, echo_concern, echo_under, has_other_type, is_other, is_other_type, layers_under, meaning_with, opened, packet_disputes, refused_by, request_under}
-use Rattle.services.proofs.Requests.{request_length}
+use Rattle.services.specs.Concern.{Concern, Nothing, OtherType, Calls, Asks, IsShort, concern_after, concern_answer, concern_by, concern_call, concern_disputes, concern_in, concern_under, content_concern, datagram_under, echo_concern, has_other_type, is_other, is_other_type, layers_under, meaning_with, other_in, packet_disputes, refused_by}
+use Rattle.services.proofs.Requests.{no_message, request_length}
 
 -- the type of the values of a format
 abbrev ValueOf : {F A : Type 0} → Codec F A → Type 0
@@ -27,51 +29,36 @@ ValueOf {A = A} codec = A
 -- ---- what follows the Ethernet header decides
 
 -- what of a frame with this header concerns the services, if it has one
-abbrev pub concern_from : State → Option (LinkHeader × List ℕ) → Concern
-concern_from state (Some frame) = concern_under state frame.0 frame.1
-concern_from state None = Nothing
+abbrev pub concern_from : State → Result (EthernetHeader × List ℕ) FrameFault → Concern
+concern_from state (Ok frame) = concern_under state frame.0 frame.1
+concern_from state (Err fault) = Nothing
 
-module _ (state : State) (bytes : List ℕ) (to from : Mac) (tag : Option ℕ) (kind : ℕ) (content : List ℕ)
-    (e : (mac ⨾ mac ⨾ tag_and_type).read bytes ≡ Ok ((to, (from, (tag, kind))), content)) where
-  too_long : nat_lt (longest tag) (length bytes) ≡ true → concern_in state bytes ≡ concern_from state (opened bytes)
-  unfolding concern_in has_other_type opened frame_of layers ethernet link request_of
-  too_long long = rw (e, long) refl
+by_header : (state : State) (read : Result (EthernetHeader × List ℕ) FrameFault)
+    → (if other_in read then OtherType else concern_by state (meaning_behind read) (read >>= λ frame. request_under frame.0 frame.1)) ≡ concern_from state read
+by_header state (Ok frame) = refl
+by_header state (Err fault) = refl
 
-  in_room : (read : Result Content FrameFault) → (content_under kind).read content ≡ read → nat_lt (longest tag) (length bytes) ≡ false
-      → concern_in state bytes ≡ concern_from state (opened bytes)
-  unfolding concern_in has_other_type opened frame_of layers ethernet link request_of
-  in_room (Ok found) f short = rw (e, short, f) refl
-  in_room (Err fault) f short = rw (e, short, f) refl
+pub concern_is : (state : State) (bytes : List ℕ) → concern_in state bytes ≡ concern_from state (headed bytes)
+unfolding concern_in has_other_type request_of
+concern_is state bytes =
+    ap (λ (layers : Result Meaning FrameFault). if has_other_type bytes then OtherType else concern_by state layers (request_of bytes)) (frame_is bytes) ∙ by_header state (headed bytes)
 
-  judged : (long : Bool) → nat_lt (longest tag) (length bytes) ≡ long → concern_in state bytes ≡ concern_from state (opened bytes)
-  judged true long = too_long long
-  judged false short = in_room ((content_under kind).read content) refl short
-
-by_header : (state : State) (bytes : List ℕ) (read : Result ((Mac × (Mac × (Option ℕ × ℕ))) × List ℕ) FrameFault) → (mac ⨾ mac ⨾ tag_and_type).read bytes ≡ read
-    → concern_in state bytes ≡ concern_from state (opened bytes)
-unfolding concern_in has_other_type opened frame_of layers ethernet link request_of
-by_header state bytes (Ok ((to, (from, (tag, kind))), content)) e = judged state bytes to from tag kind content e (nat_lt (longest tag) (length bytes)) refl
-by_header state bytes (Err fault) e = rw e refl
-
-pub concern_is : (state : State) (bytes : List ℕ) → concern_in state bytes ≡ concern_from state (opened bytes)
-concern_is state bytes = by_header state bytes ((mac ⨾ mac ⨾ tag_and_type).read bytes) refl
-
-pub concern_opened : (state : State) (bytes : List ℕ) (header : LinkHeader) (content : List ℕ) → opened bytes ≡ Some (header, content)
+pub concern_opened : (state : State) (bytes : List ℕ) (header : EthernetHeader) (content : List ℕ) → headed bytes ≡ Ok (header, content)
     → concern_in state bytes ≡ concern_under state header content
 concern_opened state bytes header content e = concern_is state bytes ∙ ap (concern_from state) e
 
-pub concern_closed : (state : State) (bytes : List ℕ) → opened bytes ≡ None → concern_in state bytes ≡ Nothing
-concern_closed state bytes e = concern_is state bytes ∙ ap (concern_from state) e
+pub concern_closed : (state : State) (bytes : List ℕ) (fault : FrameFault) → headed bytes ≡ Err fault → concern_in state bytes ≡ Nothing
+concern_closed state bytes fault e = concern_is state bytes ∙ ap (concern_from state) e
 
 -- ---- by the EtherType
 
 -- real-time data concerns nothing
-timely : (state : State) (header : LinkHeader) (read : Result (ℕ × List ℕ) FrameFault)
+timely : (state : State) (header : EthernetHeader) (read : Result (ℕ × List ℕ) FrameFault)
     → concern_by state (read >>= (λ x. Ok (RealTime x.0 x.1)) >>= λ content. Ok (meaning_with header content)) (Err EtherType) ≡ Nothing
 timely state header (Ok x) = refl
 timely state header (Err fault) = refl
 
-pub concern_timely : (state : State) (header : LinkHeader) (octets : List ℕ) → header.ether_type ≡ 0x8892 → concern_under state header octets ≡ Nothing
+pub concern_timely : (state : State) (header : EthernetHeader) (octets : List ℕ) → header.ether_type ≡ 0x8892 → concern_under state header octets ≡ Nothing
 unfolding real_time
 concern_timely state header octets e = rw e (timely state header ((ends_by (number TooShort 2) (λ _. everything)).read octets))
 
@@ -86,7 +73,7 @@ unasked own group running peer e = rw e refl
 refused : {A : Type 0} (b : Bool) (one other : A) → b ≡ false → (if b then one else other) ≡ other
 refused b one other e = rw e refl
 
-module _ (state : State) (header : LinkHeader) (other : is_own state header.destination ≡ false) where
+module _ (state : State) (header : EthernetHeader) (other : is_own state header.destination ≡ false) where
   unechoed : (read : Result EchoMeaning FrameFault)
       → echo_concern state (read >>= λ message. Ok (record { destination = header.destination; source = header.source; echo = message })) ≡ Nothing
   unechoed (Ok message) = refused _ _ Nothing (unasked (is_own state header.destination) (is_group header.source) (is_running state message.destination) (is_peer state message.source) other)
@@ -100,6 +87,49 @@ module _ (state : State) (header : LinkHeader) (other : is_own state header.dest
   pub concern_elsewhere : (octets : List ℕ) → concern_by state (datagram_under header octets) (echo_under header octets) ≡ Nothing
   unfolding datagram
   concern_elsewhere octets = undelivered octets ((loose packet).read octets)
+
+-- only a datagram for the port of calls is a call
+uncalled_port : (answers own running port peer : Bool) → port ≡ false → (answers && own && running && port && peer) ≡ false
+uncalled_port true true true port peer e = rw e refl
+uncalled_port true true false port peer e = refl
+uncalled_port true false running port peer e = refl
+uncalled_port false own running port peer e = refl
+
+refused_port : (is : Bool) (content : Content) → (if is then Some content else None) ≡ None → is ≡ false
+refused_port true content e = absurd cc
+refused_port false content e = refl
+
+kept_port : (is : Bool) (one other : Content) → (if is then Some one else None) ≡ Some other → one ≡ other
+kept_port true one other e = cc
+kept_port false one other e = absurd cc
+
+module _ (state : State) (header : EthernetHeader) (octets : List ℕ) where
+  unsent : (read : Result (ValueOf packet) FrameFault) → (loose packet).read octets ≡ read → sent_to call_port (datagram.read octets) ≡ None
+      → concern_by state (datagram_under header octets) (echo_under header octets) ≡ echo_concern state (echo_under header octets)
+  unfolding datagram
+  unsent (Err fault) e none = rw e refl
+  unsent (Ok x) e none =
+      let from : Endpoint = record { address = x.0.0.source; port = x.1.0.source } in
+      let to : Endpoint = record { address = x.0.0.destination; port = x.1.0.destination } in
+      let other = refused_port (to.port == call_port) (datagram_in x) (rw e at none) in
+      let found : datagram.read octets ≡ Ok (datagram_in x) = rw e refl in
+      let message = no_message octets (datagram_in x) found in
+      rw (e, message) (refused (is_called state header.destination from to) _ Nothing
+      (uncalled_port (answers_calls state.role) (is_own state header.destination) (is_running state to.address) (to.port == call_port) (is_peer state from.address) other))
+
+  pub concern_uncalled : sent_to call_port (datagram.read octets) ≡ None
+      → concern_by state (datagram_under header octets) (echo_under header octets) ≡ echo_concern state (echo_under header octets)
+  concern_uncalled none = unsent ((loose packet).read octets) refl none
+
+  sent : (read : Result (ValueOf packet) FrameFault) (content : Content) → (loose packet).read octets ≡ read → sent_to call_port (datagram.read octets) ≡ Some content
+      → concern_by state (datagram_under header octets) (echo_under header octets) ≡ content_concern state header.destination header.source content
+  unfolding datagram
+  sent (Err fault) content e some = absurd (let none : None ≡ Some content = rw e at some in cc)
+  sent (Ok x) content e some = rw (e, ← kept_port (x.1.0.destination == call_port) (datagram_in x) content (rw e at some)) refl
+
+  pub concern_called : (from to : Endpoint) (body : List ℕ) → sent_to call_port (datagram.read octets) ≡ Some (UdpDatagram from to body)
+      → concern_by state (datagram_under header octets) (echo_under header octets) ≡ content_concern state header.destination header.source (UdpDatagram from to body)
+  concern_called from to body some = sent ((loose packet).read octets) (UdpDatagram from to body) refl some
 
 -- ---- what follows from it
 
@@ -161,10 +191,10 @@ follows_by state bytes (Err fault) = follows_echo state bytes fault (request_of 
 -- ---- another EtherType
 
 -- neither the layers nor an echo request of a frame can be read
-record IsUnread (bytes : List ℕ) : Type 0 where
+record IsUnread (layers : Result Meaning FrameFault) (asked : Result Request FrameFault) : Type 0 where
   fault : FrameFault
-  layers_fail : frame_of bytes ≡ Err fault
-  request_fails : request_of bytes ≡ Err EtherType
+  layers_fail : layers ≡ Err fault
+  request_fails : asked ≡ Err EtherType
 
 not_those : (one two three : Bool) → not (one || two || three) ≡ true → (one ≡ false) × (two ≡ false) × (three ≡ false)
 not_those true two three e = absurd cc
@@ -172,31 +202,22 @@ not_those false true three e = absurd cc
 not_those false false true e = absurd cc
 not_those false false false e = (refl, refl, refl)
 
-module _ (bytes : List ℕ) (to from : Mac) (tag : Option ℕ) (kind : ℕ) (content : List ℕ) (e : (mac ⨾ mac ⨾ tag_and_type).read bytes ≡ Ok ((to, (from, (tag, kind))), content)) where
-  unread_by : (long : Bool) → nat_lt (longest tag) (length bytes) ≡ long → (tagged : Bool) → (kind == vlan) ≡ tagged → has_other_type bytes ≡ true → IsUnread bytes
-  unfolding has_other_type opened frame_of layers ethernet link request_of
-  unread_by true long tagged again other =
-      let unopened : has_other_type bytes ≡ false = rw (e, long) refl in
-      let none : false ≡ true = sym unopened ∙ other in absurd cc
-  unread_by false short true again other =
-      let is : has_other_type bytes ≡ is_other kind = rw (e, short) refl in
-      let those = not_those (kind == profinet) (kind == address_resolution) (kind == internet) (sym is ∙ other) in
-      record { fault = Tag; layers_fail = rw (e, short, again) refl; request_fails = rw (e, short, those.2) refl }
-  unread_by false short false again other =
-      let is : has_other_type bytes ≡ is_other kind = rw (e, short) refl in
-      let those = not_those (kind == profinet) (kind == address_resolution) (kind == internet) (sym is ∙ other) in
-      record { fault = EtherType; layers_fail = rw (e, short, again, those.0, those.1, those.2) refl; request_fails = rw (e, short, those.2) refl }
+unread_under : (header : EthernetHeader) (octets : List ℕ) (tagged : Bool) → (header.ether_type == vlan) ≡ tagged → is_other header.ether_type ≡ true
+    → IsUnread (layers_under header octets) (request_under header octets)
+unread_under header octets true again other =
+    let those = not_those (header.ether_type == profinet) (header.ether_type == address_resolution) (header.ether_type == internet) other in
+    record { fault = Tag; layers_fail = rw again refl; request_fails = rw those.2 refl }
+unread_under header octets false again other =
+    let those = not_those (header.ether_type == profinet) (header.ether_type == address_resolution) (header.ether_type == internet) other in
+    record { fault = EtherType; layers_fail = rw (again, those.0, those.1, those.2) refl; request_fails = rw those.2 refl }
 
-unread_from : (bytes : List ℕ) (read : Result ((Mac × (Mac × (Option ℕ × ℕ))) × List ℕ) FrameFault) → (mac ⨾ mac ⨾ tag_and_type).read bytes ≡ read
-    → has_other_type bytes ≡ true → IsUnread bytes
-unfolding has_other_type opened link
-unread_from bytes (Ok ((to, (from, (tag, kind))), content)) e other = unread_by bytes to from tag kind content e (nat_lt (longest tag) (length bytes)) refl (kind == vlan) refl other
-unread_from bytes (Err fault) e other =
-    let unopened : has_other_type bytes ≡ false = rw e refl in
-    let none : false ≡ true = sym unopened ∙ other in absurd cc
+unread_from : (read : Result (EthernetHeader × List ℕ) FrameFault) → other_in read ≡ true → IsUnread (meaning_behind read) (read >>= λ frame. request_under frame.0 frame.1)
+unread_from (Ok frame) other = unread_under frame.0 frame.1 (frame.0.ether_type == vlan) refl other
+unread_from (Err fault) other = absurd cc
 
-unread : (bytes : List ℕ) → has_other_type bytes ≡ true → IsUnread bytes
-unread bytes other = unread_from bytes ((mac ⨾ mac ⨾ tag_and_type).read bytes) refl other
+unread : (bytes : List ℕ) → has_other_type bytes ≡ true → IsUnread (frame_of bytes) (request_of bytes)
+unfolding has_other_type request_of
+unread bytes other = subst (λ (layers : Result Meaning FrameFault). IsUnread layers (request_of bytes)) (sym (frame_is bytes)) (unread_from (headed bytes) other)
 
 -- ---- together
 
@@ -279,7 +300,7 @@ disputes_echo : (state : State) (asked : Result Request FrameFault) → concern_
 disputes_echo state (Ok request) = sym (if_disputes state (Asks request) (is_asked state request) refl)
 disputes_echo state (Err fault) = refl
 
-module _ (state : State) (header : LinkHeader) (asked : Result Request FrameFault) where
+module _ (state : State) (header : EthernetHeader) (asked : Result Request FrameFault) where
   disputes_timely : (read : Result (ℕ × List ℕ) FrameFault)
       → concern_disputes state (concern_by state (read >>= (λ x. Ok (RealTime x.0 x.1)) >>= λ content. Ok (meaning_with header content)) asked) ≡ false
   disputes_timely (Ok x) = refl
@@ -312,18 +333,18 @@ disputes_if : (state : State) (concern : Concern) (other : Bool) → concern_dis
 disputes_if state concern true e = refl
 disputes_if state concern false e = e
 
-disputes_under : (state : State) (header : LinkHeader) (octets : List ℕ) (is : Bool) → (header.ether_type == address_resolution) ≡ is
+disputes_under : (state : State) (header : EthernetHeader) (octets : List ℕ) (is : Bool) → (header.ether_type == address_resolution) ≡ is
     → concern_disputes state (concern_under state header octets) ≡ (is && packet_disputes state (arp.read octets))
 disputes_under state header octets true e = rw (eqb-true _ _ e) (disputes_resolved state header (Err EtherType) (arp.read octets))
 disputes_under state header octets false e =
     disputes_if state (concern_by state (layers_under header octets) (request_under header octets)) (is_other header.ether_type)
     (rw e (disputes_picked state header (request_under header octets) octets (header.ether_type == vlan) (header.ether_type == profinet) (header.ether_type == internet)))
 
-pub disputes_opened : (state : State) (bytes : List ℕ) (header : LinkHeader) (content : List ℕ) → opened bytes ≡ Some (header, content)
+pub disputes_opened : (state : State) (bytes : List ℕ) (header : EthernetHeader) (content : List ℕ) → headed bytes ≡ Ok (header, content)
     → disputes state bytes ≡ ((header.ether_type == address_resolution) && packet_disputes state (arp.read content))
 disputes_opened state bytes header content e =
     dispute_follows state bytes ∙ ap (concern_disputes state) (concern_opened state bytes header content e)
     ∙ disputes_under state header content (header.ether_type == address_resolution) refl
 
-pub disputes_closed : (state : State) (bytes : List ℕ) → opened bytes ≡ None → disputes state bytes ≡ false
-disputes_closed state bytes e = dispute_follows state bytes ∙ ap (concern_disputes state) (concern_closed state bytes e)
+pub disputes_closed : (state : State) (bytes : List ℕ) (fault : FrameFault) → headed bytes ≡ Err fault → disputes state bytes ≡ false
+disputes_closed state bytes fault e = dispute_follows state bytes ∙ ap (concern_disputes state) (concern_closed state bytes fault e)

@@ -6,11 +6,10 @@ use Rattle.wire.specs.Formats.{raw, number, then_by, ◌⨾◌, seen, unchecked,
 use Rattle.wire.specs.Checks.{fixed, checked}
 use Rattle.frame_codec.specs.declared.fault.FrameFault.{FrameFault}
 use Rattle.frame_codec.specs.declared.fault.FrameFault.TheVariants.{TooShort, IpHeader}
-use Rattle.frame_codec.specs.Internet.{size_behind, internet_size, no_fragment}
-use Rattle.frame_codec.specs.Frame.{vlan, mac, tag_and_type_of, tag_and_type, longest}
-use Rattle.services.specs.declared.link.LinkHeader.{LinkHeader}
-use Rattle.services.specs.Message.{icmp_way, icmp_packet, echo_header, echo_message, echo_packet, EchoMeaning, echo}
-use Rattle.services.specs.Echo.{link}
+use Rattle.frame_codec.specs.Internet.{size_behind, internet_size, no_fragment, internet_way, internet_header}
+use Rattle.frame_codec.specs.Frame.{ethernet, vlan, mac, tag_and_type_of, tag_and_type, longest}
+use Rattle.frame_codec.specs.declared.ethernet.EthernetHeader.{EthernetHeader}
+use Rattle.services.specs.Message.{echo_header, echo_message, echo_packet, EchoMeaning, echo}
 
 -- every spelling of a value takes this many octets
 record Takes {A : Type 0} (size : ℕ) (codec : Codec FrameFault A) : Type 0 where
@@ -56,13 +55,13 @@ size_takes = seen_takes _ _ _ 6 (then_takes _ _ 1 5 (fixed_takes IpHeader 1 0x45
 fragment_takes : Takes 2 no_fragment
 fragment_takes = seen_takes _ _ _ 2 (checked_takes _ IpHeader _ 2 (number_takes IpHeader 2))
 
-way_takes : Takes 4 icmp_way
-unfolding icmp_way
-way_takes = seen_takes _ _ _ 4 (then_takes _ _ 2 2 fragment_takes (λ _. then_takes _ _ 1 1 (unchecked_takes IpHeader 1 64) (λ _. fixed_takes IpHeader 1 1)))
+way_takes : (protocol : ℕ) → Takes 4 (internet_way protocol)
+unfolding internet_way
+way_takes protocol = seen_takes _ _ _ 4 (then_takes _ _ 2 2 fragment_takes (λ _. then_takes _ _ 1 1 (unchecked_takes IpHeader 1 64) (λ _. fixed_takes IpHeader 1 protocol)))
 
-packet_takes : Takes 20 icmp_packet
-unfolding icmp_packet
-packet_takes = seen_takes _ _ _ 20 (then_takes _ _ 6 14 size_takes (λ _. then_takes _ _ 4 10 way_takes
+packet_takes : (protocol : ℕ) → Takes 20 (internet_header protocol)
+unfolding internet_header
+packet_takes protocol = seen_takes _ _ _ 20 (then_takes _ _ 6 14 size_takes (λ _. then_takes _ _ 4 10 (way_takes protocol)
     (λ _. then_takes _ _ 2 8 (number_takes IpHeader 2) (λ _. then_takes _ _ 4 4 (raw_takes IpHeader 4) (λ _. raw_takes IpHeader 4)))))
 
 -- ---- an echo message
@@ -78,7 +77,7 @@ unfolding echo echo_packet echo_message
 message_length kind bytes message s =
     let body = ap (λ (m : EchoMeaning). length m.body) s.1 in
     let packet = s.2.1 in
-    let header = packet_takes.all bytes s.0.0.0 packet.0 packet.1.0 in
+    let header = (packet_takes 1).all bytes s.0.0.0 packet.0 packet.1.0 in
     let cut = packet.2 in
     let inside = cut.3.1.1 in
     let content = (echo_header_takes kind).all cut.0 s.0.1.0 inside.0 inside.1 in
@@ -106,11 +105,11 @@ type_length bytes value rest s =
     omega (arith, first, more, seen)
 
 -- a frame has 14 octets more than its content, or 18 with a tag
-pub link_length : (bytes : List ℕ) (header : LinkHeader) (rest : List ℕ) → link.Spells bytes header rest → length bytes + 1500 ≡ longest header.tag + length rest
-unfolding link
+pub link_length : (bytes : List ℕ) (header : EthernetHeader) (rest : List ℕ) → ethernet.Spells bytes header rest → length bytes + 1500 ≡ longest header.tag + length rest
+unfolding ethernet
 link_length bytes header rest s =
     let to = mac_takes.all bytes s.0.0 s.2.0 s.2.1 in
     let from = mac_takes.all s.2.0 s.0.1.0 s.2.2.0 s.2.2.1 in
     let more = type_length s.2.2.0 s.0.1.1 rest s.2.2.2 in
-    let seen = ap (λ (h : LinkHeader). longest h.tag) s.1 in
+    let seen = ap (λ (h : EthernetHeader). longest h.tag) s.1 in
     omega (arith, to, from, more, seen)

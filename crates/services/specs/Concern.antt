@@ -1,19 +1,17 @@
 -- What of a frame concerns the services. It is enough to answer the frame, and to know the state after it.
-use Rattle.std.specs.Prelude.{◌≤◌, ◌==◌, ◌||◌, not, ⊤, ℕ, Bool, true, false, List, length, Option, Some, None, Result, Ok, Err, nat_lt, if◌then◌else◌}
+use Rattle.std.specs.Prelude.{◌≤◌, ◌==◌, ◌||◌, not, ⊤, ℕ, Bool, true, false, List, length, Option, Some, None, Result, Ok, Err, if◌then◌else◌}
 use Rattle.std.specs.Option.{option_map}
 use Rattle.wire.specs.Codec.{◌>>=◌}
 use Rattle.pn_values.specs.declared.mac.Mac.{Mac}
 use Rattle.frame_codec.specs.declared.arp.Arp.{Arp}
 use Rattle.frame_codec.specs.declared.fault.FrameFault.{FrameFault}
-use Rattle.frame_codec.specs.declared.fault.FrameFault.TheVariants.{EtherType}
-use Rattle.frame_codec.specs.Frame.{address_resolution, arp, content_under, datagram, frame_bytes, frame_of, internet, longest, profinet}
+use Rattle.frame_codec.specs.Frame.{address_resolution, arp, content_under, datagram, frame_bytes, frame_of, headed, internet, profinet}
 use Rattle.frame_codec.specs.Meaning.{Content, Meaning, RealTime, ArpPacket, UdpDatagram}
 use Rattle.rpc_core.specs.call_headers.Unserved.{unserved_answer}
 use Rattle.services.specs.declared.concern.Concern.{Concern as Found}
 use Rattle.services.specs.declared.concern.Concern.TheVariants as found
-use Rattle.services.specs.declared.link.LinkHeader.{LinkHeader}
-use Rattle.services.specs.Message.{echo}
-use Rattle.services.specs.Echo.{Request, link, reply_frame, request_of}
+use Rattle.frame_codec.specs.declared.ethernet.EthernetHeader.{EthernetHeader}
+use Rattle.services.specs.Echo.{Request, reply_frame, request_of, request_under}
 use Rattle.services.specs.State.{State}
 use Rattle.services.specs.Answer.{Call, after_packet, arp_answer, call_reply_of, content_disputes, is_asked, is_called, is_conflict}
 use Rattle.services.specs.Views.{asked_by, call_as}
@@ -54,27 +52,18 @@ abbrev pub concern_by : State → Result Meaning FrameFault → Result Request F
 concern_by state (Ok meaning) asked = content_concern state meaning.destination meaning.source meaning.content
 concern_by state (Err fault) asked = echo_concern state asked
 
--- The Ethernet header of a frame and what follows it, unless the header is incomplete or the frame too long.
-abbrev pub in_length : ℕ → Result (LinkHeader × List ℕ) FrameFault → Option (LinkHeader × List ℕ)
-in_length size (Ok frame) = if nat_lt (longest frame.0.tag) size then None else Some frame
-in_length size (Err fault) = None
-
--- The Ethernet header of octets and what follows it, if they can be read.
-unfoldable pub opened : List ℕ → Option (LinkHeader × List ℕ)
-opened bytes = in_length (length bytes) (link.read bytes)
-
 -- Whether an EtherType is another one than those of PROFINET, ARP and IPv4.
 abbrev pub is_other : ℕ → Bool
 is_other type = not (type == profinet || type == address_resolution || type == internet)
 
--- Whether an opened frame has another EtherType than PROFINET, ARP and IPv4.
-abbrev pub other_in : Option (LinkHeader × List ℕ) → Bool
-other_in (Some frame) = is_other frame.0.ether_type
-other_in None = false
+-- Whether a frame whose header was read has another EtherType than PROFINET, ARP and IPv4.
+abbrev pub other_in : Result (EthernetHeader × List ℕ) FrameFault → Bool
+other_in (Ok frame) = is_other frame.0.ether_type
+other_in (Err fault) = false
 
 -- Whether a frame has such an EtherType.
 unfoldable pub has_other_type : List ℕ → Bool
-has_other_type bytes = other_in (opened bytes)
+has_other_type bytes = other_in (headed bytes)
 
 -- What of these octets concerns the services.
 unfoldable pub concern_in : State → List ℕ → Concern
@@ -83,32 +72,23 @@ concern_in state bytes = if has_other_type bytes then OtherType else concern_by 
 -- ---- what follows an Ethernet header
 
 -- A frame with this Ethernet header and content.
-abbrev pub meaning_with : LinkHeader → Content → Meaning
+abbrev pub meaning_with : EthernetHeader → Content → Meaning
 meaning_with header content = record { destination = header.destination; source = header.source; tag = header.tag; content = content }
 
 -- The layers after an Ethernet header.
-abbrev pub layers_under : LinkHeader → List ℕ → Result Meaning FrameFault
+abbrev pub layers_under : EthernetHeader → List ℕ → Result Meaning FrameFault
 layers_under header octets = (content_under header.ether_type).read octets >>= λ content. Ok (meaning_with header content)
 
 -- A packet of ARP after an Ethernet header.
-abbrev pub arp_under : LinkHeader → List ℕ → Result Meaning FrameFault
+abbrev pub arp_under : EthernetHeader → List ℕ → Result Meaning FrameFault
 arp_under header octets = arp.read octets >>= λ content. Ok (meaning_with header content)
 
 -- A datagram of UDP after an Ethernet header.
-abbrev pub datagram_under : LinkHeader → List ℕ → Result Meaning FrameFault
+abbrev pub datagram_under : EthernetHeader → List ℕ → Result Meaning FrameFault
 datagram_under header octets = datagram.read octets >>= λ content. Ok (meaning_with header content)
 
--- An echo request (ICMP type 8) after an Ethernet header.
-abbrev pub echo_under : LinkHeader → List ℕ → Result Request FrameFault
-echo_under header octets =
-    (echo 8).read octets >>= λ message. Ok (record { destination = header.destination; source = header.source; echo = message })
-
--- An echo request after an Ethernet header, if its EtherType is that of IPv4.
-abbrev pub request_under : LinkHeader → List ℕ → Result Request FrameFault
-request_under header octets = if header.ether_type == internet then echo_under header octets else Err EtherType
-
 -- What concerns the services of what follows an Ethernet header.
-abbrev pub concern_under : State → LinkHeader → List ℕ → Concern
+abbrev pub concern_under : State → EthernetHeader → List ℕ → Concern
 concern_under state header octets =
     if is_other header.ether_type then OtherType else concern_by state (layers_under header octets) (request_under header octets)
 

@@ -1,28 +1,15 @@
 -- Echo messages (RFC 792) in packets of IPv4 (RFC 791).
 use Rattle.std.specs.Prelude.{◌≡◌, ◌+◌, ◌==◌, ℕ, true, List, [], length, Err, if◌then◌else◌}
 use Rattle.wire.specs.Codec.{Codec, Whole}
-use Rattle.wire.specs.Formats.{raw, number, then_by, ◌⨾◌, seen, unchecked}
+use Rattle.wire.specs.Formats.{number, ◌⨾◌, seen}
 use Rattle.wire.specs.Whole.{everything, ends_by, seen_whole, loose}
-use Rattle.wire.specs.Checks.{fixed, allowed}
-use Rattle.wire.specs.Kept.{kept, cut}
+use Rattle.wire.specs.Checks.{fixed}
 use Rattle.frame_codec.specs.declared.fault.FrameFault.{FrameFault}
 use Rattle.frame_codec.specs.declared.fault.FrameFault.TheVariants.{IpHeader, IpChecksum}
 use Rattle.frame_codec.specs.Sum.{ones_sum_of, complement}
-use Rattle.frame_codec.specs.Internet.{internet_size, no_fragment}
-use Rattle.services.specs.declared.header.IcmpPacket.{IcmpPacket}
+use Rattle.frame_codec.specs.Internet.{internet_header, internet_sealed, packet_with}
+use Rattle.frame_codec.specs.declared.internet.InternetHeader.{InternetHeader}
 use Rattle.services.specs.declared.message.EchoHeader.{EchoHeader}
-
--- ---- the header of IPv4
-
--- not a fragment, any time to live, protocol 1
-unfoldable pub icmp_way : Codec FrameFault (Unit {0})
-icmp_way = seen (λ _. tt) (λ _. (tt, (tt, tt))) (no_fragment ⨾ unchecked IpHeader 1 64 ⨾ fixed IpHeader 1 1)
-
--- the header of a packet of ICMP: as that of a packet of UDP, but with protocol 1
-unfoldable pub icmp_packet : Codec FrameFault IcmpPacket
-icmp_packet = seen (λ x. record { size = x.0; checksum = x.1.1.0; source = x.1.1.1.0; destination = x.1.1.1.1 })
-    (λ header. (header.size, (tt, (header.checksum, (header.source, header.destination)))))
-    (internet_size ⨾ icmp_way ⨾ number IpHeader 2 ⨾ raw IpHeader 4 ⨾ raw IpHeader 4)
 
 -- ---- an echo message
 
@@ -48,13 +35,9 @@ summed whole = record {
 
 -- ---- a packet
 
--- what follows a header, if the sum of the header's octets is all ones
-abbrev pub echo_inside : ℕ → IcmpPacket × List ℕ → Whole FrameFault (EchoHeader × List ℕ)
-echo_inside kind header = allowed (ones_sum_of header.1 == 65535) IpChecksum (summed (echo_message kind))
-
--- a header with its octets, and an echo message in the rest of the total length
-unfoldable pub echo_packet : ℕ → Codec FrameFault ((IcmpPacket × List ℕ) × (EchoHeader × List ℕ))
-echo_packet kind = then_by (kept icmp_packet) (λ header. cut IpHeader header.0.size (echo_inside kind header))
+-- a packet of ICMP, which is protocol 1, with an echo message
+unfoldable pub echo_packet : ℕ → Codec FrameFault ((InternetHeader × List ℕ) × (EchoHeader × List ℕ))
+echo_packet kind = packet_with 1 (λ _. summed (echo_message kind))
 
 -- ---- what it means
 
@@ -67,7 +50,7 @@ pub record EchoMeaning : Type 0 where
   pub body : List ℕ
 
 -- what a packet says
-abbrev pub echo_in : (IcmpPacket × List ℕ) × (EchoHeader × List ℕ) → EchoMeaning
+abbrev pub echo_in : (InternetHeader × List ℕ) × (EchoHeader × List ℕ) → EchoMeaning
 echo_in x = record {
   source = x.0.0.source;
   destination = x.0.0.destination;
@@ -78,25 +61,21 @@ echo_in x = record {
 
 -- ---- what is written
 
--- the header of a packet with its checksum in place of the 0 in that field
-abbrev pub packet_sealed : IcmpPacket → IcmpPacket
-packet_sealed header = record header { checksum = complement (ones_sum_of (icmp_packet.write header [])) }
-
 -- the header of a message with its checksum in place of the 0 in that field
 abbrev pub message_sealed : ℕ → EchoHeader → List ℕ → EchoHeader
 message_sealed kind header body = record header { checksum = complement (ones_sum_of ((echo_message kind).write (header, body))) }
 
 -- the header of the packet that is sent for a message
-abbrev pub packet_header : EchoMeaning → IcmpPacket
-packet_header echo = packet_sealed (record { size = length echo.body + 8; checksum = 0; source = echo.source; destination = echo.destination })
+abbrev pub packet_header : EchoMeaning → InternetHeader
+packet_header echo = internet_sealed 1 (record { size = length echo.body + 8; checksum = 0; source = echo.source; destination = echo.destination })
 
 -- the header of the message that is sent
 abbrev pub message_header : ℕ → EchoMeaning → EchoHeader
 message_header kind echo = message_sealed kind (record { checksum = 0; identifier = echo.identifier; sequence = echo.sequence }) echo.body
 
 -- the packet that is sent for a message of this type
-abbrev pub packet_of : ℕ → EchoMeaning → (IcmpPacket × List ℕ) × (EchoHeader × List ℕ)
-packet_of kind echo = ((packet_header echo, icmp_packet.write (packet_header echo) []), (message_header kind echo, echo.body))
+abbrev pub packet_of : ℕ → EchoMeaning → (InternetHeader × List ℕ) × (EchoHeader × List ℕ)
+packet_of kind echo = ((packet_header echo, (internet_header 1).write (packet_header echo) []), (message_header kind echo, echo.body))
 
 -- an echo message of this type in a packet of IPv4; the octets after the packet are ignored
 unfoldable pub echo : ℕ → Whole FrameFault EchoMeaning

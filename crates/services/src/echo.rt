@@ -3,9 +3,8 @@ ghost use Rattle.wire.specs.Codec.{Gives};
 ghost use Rattle.services.specs.Message.{echo};
 ghost use Rattle.services.specs.Views.{meaning_of};
 
-use crate::header::packet_at;
-use crate::message::message_at;
-use frame_codec::{FrameFault, ones_sum};
+use crate::message::{ICMP, message_at};
+use frame_codec::{FrameFault, internet_header_at, ones_sum};
 use pn_values::Mac;
 use wire::{front, split};
 
@@ -41,7 +40,7 @@ pub struct EchoRequest<'a> {
 pub(crate) fn echo_at(content: &[u8]) -> Result<Echo<'_>, FrameFault>
     ensures { Gives meaning_of result ((echo 8).read content.now) }
 {
-    let (packet, rest) = packet_at(content)?;
+    let (packet, rest) = internet_header_at(content, ICMP)?;
     let (message, _) = split(rest, packet.size as usize, FrameFault::IpHeader)?;
     // Both checksums are judged by the sum of all words, themselves included.
     if ones_sum(front(content, rest)) != 0xFFFF {

@@ -9,18 +9,18 @@ ghost use Rattle.frame_codec.specs.Frame.{address_resolution, arp, frame_bytes, 
 ghost use Rattle.frame_codec.specs.Meaning.{ArpPacket, Meaning, UdpDatagram};
 ghost use Rattle.services.specs.State.{announcement_for as announced, disputed, observed, sent_by_tick, started, ticked, is_running as runs, is_own as owns, is_defended as defends_by, announces as announces_by, frames_in};
 ghost use Rattle.services.specs.Answer.{IsOtherFrame, after_packet, answer_to, arp_answer, arp_reply_of, call_in, call_reply_of, disputes as disputes_by, frame_in, heard, answers_calls as answers_calls_by, datagram_answer, is_asked as asks, is_called as calls_by, is_conflict as conflicts_with, is_group as is_group_by, is_peer as peers, is_request as requests, is_sought as seeks, resolves as resolves_by};
-ghost use Rattle.services.specs.Echo.{Request, reply_frame, request_of};
-ghost use Rattle.services.specs.Concern.{IsShort, arp_under, concern_after, concern_answer, concern_as, concern_by, concern_call, concern_disputes, concern_in, concern_under, content_concern, datagram_under, echo_concern, echo_under, has_other_type, is_other_type, packet_disputes, refused_by};
+ghost use Rattle.services.specs.Echo.{Request, echo_under, reply_frame, request_of};
+ghost use Rattle.services.specs.Concern.{IsShort, arp_under, concern_after, concern_answer, concern_as, concern_by, concern_call, concern_disputes, concern_in, concern_under, content_concern, datagram_under, echo_concern, has_other_type, is_other_type, packet_disputes, refused_by};
 ghost use Rattle.services.specs.State.{State};
 ghost use Rattle.services.specs.Views.{asked_by, call_as};
 
 use crate::address::{BROADCAST, is_group, is_host, is_same, is_zero};
 use crate::echo::echo_at;
-use crate::link::{ADDRESS_RESOLUTION, INTERNET, LinkHeader, PROFINET, open};
 use crate::reply::{arp_reply, call_reply, echo_reply, put_announcement};
 use crate::{Announcement, Called, Concern, EchoRequest, Role};
 use frame_codec::{
-    Arp, ArpOperation, Endpoint, Frame, Holder, Outbox, RPC_PORT, Udp, datagram_at, packet_at,
+    ADDRESS_RESOLUTION, Arp, ArpOperation, Endpoint, EthernetHeader, Frame, Holder, INTERNET,
+    Outbox, PROFINET, RPC_PORT, Udp, datagram_to, header_in, packet_at,
 };
 use pn_values::Mac;
 use rpc_core::unserved_answer;
@@ -99,7 +99,7 @@ fn answers_calls(role: Role) -> bool
 }
 
 /// What concerns the services of a packet of ARP.
-fn packet_concern<'a>(link: &LinkHeader, content: &[u8]) -> Concern<'a>
+fn packet_concern<'a>(link: &EthernetHeader, content: &[u8]) -> Concern<'a>
     ensures { (state : State) → concern_as result ≡ concern_by state (arp_under link.now content.now) (Err FrameFault.EtherType) }
 {
     match packet_at(content) {
@@ -238,9 +238,9 @@ impl Services {
     fn find<'a>(&self, bytes: &'a [u8]) -> Concern<'a>
         ensures { concern_as result ≡ concern_in self.now bytes.now }
     {
-        match open(bytes) {
-            Some((link, content)) => self.concern_of(&link, content),
-            None => Concern::Nothing,
+        match header_in(bytes) {
+            Ok((link, content)) => self.concern_of(&link, content),
+            Err(_) => Concern::Nothing,
         }
     }
 
@@ -268,9 +268,9 @@ impl Services {
     pub fn disputes(&self, bytes: &[u8]) -> bool
         ensures { result ≡ disputes_by self.now bytes.now }
     {
-        match open(bytes) {
-            Some((link, content)) => self.disputes_in(&link, content),
-            None => false,
+        match header_in(bytes) {
+            Ok((link, content)) => self.disputes_in(&link, content),
+            Err(_) => false,
         }
     }
 
@@ -337,7 +337,7 @@ impl Services {
 
     /// What concerns the services of a frame with this Ethernet header.
     #[tactic(auto, using(crate::proofs::Concerns::concern_timely))]
-    fn concern_of<'a>(&self, link: &LinkHeader, content: &'a [u8]) -> Concern<'a>
+    fn concern_of<'a>(&self, link: &EthernetHeader, content: &'a [u8]) -> Concern<'a>
         ensures { concern_as result ≡ concern_under self.now link.now content.now }
     {
         match link.ether_type {
@@ -348,22 +348,22 @@ impl Services {
         }
     }
 
-    /// What concerns the services of a packet of IPv4.
-    #[tactic(auto, using(crate::proofs::Concerns::concern_elsewhere))]
-    fn internet_concern<'a>(&self, link: &LinkHeader, content: &'a [u8]) -> Concern<'a>
+    /// What concerns the services of a packet of IPv4. No checksum is computed of a datagram for another port.
+    #[tactic(auto, using(crate::proofs::Concerns::concern_elsewhere, crate::proofs::Concerns::concern_called, crate::proofs::Concerns::concern_uncalled))]
+    fn internet_concern<'a>(&self, link: &EthernetHeader, content: &'a [u8]) -> Concern<'a>
         ensures { concern_as result ≡ concern_by self.now (datagram_under link.now content.now) (echo_under link.now content.now) }
     {
         if !self.is_own(link.destination) {
             return Concern::Nothing;
         }
-        match datagram_at(content) {
-            Ok(datagram) => self.call_concern(link, &datagram),
-            Err(_) => self.echo_concern(link, content),
+        match datagram_to(content, RPC_PORT) {
+            Some(datagram) => self.call_concern(link, &datagram),
+            None => self.echo_concern(link, content),
         }
     }
 
     /// The call that a datagram brings to the station, if it is one.
-    fn call_concern<'a>(&self, link: &LinkHeader, datagram: &Udp<'a>) -> Concern<'a>
+    fn call_concern<'a>(&self, link: &EthernetHeader, datagram: &Udp<'a>) -> Concern<'a>
         ensures { concern_as result ≡ content_concern self.now link.now.destination link.now.source
             (UdpDatagram datagram.now.source datagram.now.destination datagram.now.body.now) }
     {
@@ -378,7 +378,7 @@ impl Services {
     }
 
     /// The echo request of a packet of IPv4 that is no datagram, if it has one that is answered.
-    fn echo_concern<'a>(&self, link: &LinkHeader, content: &'a [u8]) -> Concern<'a>
+    fn echo_concern<'a>(&self, link: &EthernetHeader, content: &'a [u8]) -> Concern<'a>
         ensures { concern_as result ≡ echo_concern self.now (echo_under link.now content.now) }
     {
         let Ok(echo) = echo_at(content) else {
@@ -397,7 +397,7 @@ impl Services {
     }
 
     /// Whether a frame with this Ethernet header is a conflict.
-    fn disputes_in(&self, link: &LinkHeader, content: &[u8]) -> bool
+    fn disputes_in(&self, link: &EthernetHeader, content: &[u8]) -> bool
         ensures { result ≡ (link.now.ether_type == address_resolution && packet_disputes self.now (arp.read content.now)) }
     {
         if link.ether_type != ADDRESS_RESOLUTION {

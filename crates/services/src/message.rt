@@ -4,10 +4,12 @@ ghost use Rattle.arrayvec.specs.ArrayVec.{array_vec_len};
 ghost use Rattle.wire.specs.Codec.{Gives};
 ghost use Rattle.services.specs.Message.{echo_header, echo_message, message_sealed};
 
-use crate::header::fixed_u8_at;
 use arrayvec::ArrayVec;
-use frame_codec::{FrameFault, ones_sum};
+use frame_codec::{FrameFault, fixed_u8_at, ones_sum};
 use wire::{append, append_u8, append_u16, u16_at};
+
+/// The protocol number of ICMP.
+pub(crate) const ICMP: u8 = 1;
 
 /// The type of an echo message that asks.
 pub(crate) const ECHO: u8 = 8;
@@ -28,8 +30,8 @@ pub(crate) struct EchoHeader {
 fn echo_header_at(bytes: &[u8]) -> Result<(EchoHeader, &[u8]), FrameFault>
     ensures { Gives (λ x. (x.0, x.1.now)) result ((echo_header 8).read bytes.now) }
 {
-    let rest = fixed_u8_at(bytes, ECHO)?;
-    let rest = fixed_u8_at(rest, 0)?;
+    let rest = fixed_u8_at(bytes, ECHO, FrameFault::IpHeader)?;
+    let rest = fixed_u8_at(rest, 0, FrameFault::IpHeader)?;
     let (checksum, rest) = u16_at(rest, FrameFault::IpHeader)?;
     let (identifier, rest) = u16_at(rest, FrameFault::IpHeader)?;
     let (sequence, rest) = u16_at(rest, FrameFault::IpHeader)?;

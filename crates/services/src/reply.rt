@@ -1,65 +1,49 @@
 //! The frames that the services send.
-ghost use Rattle.std.specs.Prelude.{◌≡◌, ◌-◌, ◌+◌, ◌<◌, ◌≤◌, [], ◌∷◌, ◌++◌, length, replicate};
+ghost use Rattle.std.specs.Prelude.{◌≡◌, ◌+◌, ◌<◌, ◌≤◌, [], ◌∷◌, ◌++◌, length};
 ghost use Rattle.arrayvec.specs.ArrayVec.{array_vec_len};
 ghost use Rattle.frame_codec.specs.Outbox.{boxed};
 ghost use Rattle.frame_codec.specs.Frame.{frame_bytes};
-ghost use Rattle.services.specs.Message.{echo_header, icmp_packet, message_header, packet_header};
-ghost use Rattle.services.specs.Echo.{echoed, internet_link, link, reply_frame};
+ghost use Rattle.frame_codec.specs.Internet.{internet_header};
+ghost use Rattle.services.specs.Message.{echo_header, message_header, packet_header};
+ghost use Rattle.services.specs.Echo.{echoed, reply_frame};
 ghost use Rattle.services.specs.Answer.{arp_reply_of, call_reply_of};
 ghost use Rattle.services.specs.State.{announcement_by};
 ghost use Rattle.services.specs.Views.{asked_by, meaning_of};
 
 use crate::address::{BROADCAST, UNKNOWN};
-use crate::echo::EchoRequest;
-use crate::header::{IcmpPacket, put_packet};
-use crate::link::put_link;
-use crate::message::{ECHO_REPLY, EchoHeader, put_echo_header};
+use crate::echo::{Echo, EchoRequest};
+use crate::message::{ECHO_REPLY, EchoHeader, ICMP, put_echo_header};
 use arrayvec::ArrayVec;
 use frame_codec::{
-    Arp, ArpOperation, Endpoint, Frame, Holder, Layered, Outbox, Payload, Udp, write,
+    Arp, ArpOperation, Endpoint, EthernetHeader, Frame, Holder, INTERNET, InternetHeader, Layered,
+    Outbox, Payload, Udp, put_internet_header, write, write_under,
 };
 use pn_values::Mac;
 
-/// As many zeros as the shortest frame has octets.
-static ZEROS: [u8; 60] = [0; 60];
-
-/// Pads with zeros to at least 60 octets.
-fn pad(frame: &mut Frame)
-    ensures { frame.new.items ≡ frame.old.items ++ replicate (60 - length frame.old.items) 0 }
+/// The headers of the reply to an echo request: of IPv4 and of the message.
+fn headers(echo: &Echo<'_>) -> ArrayVec<u8, 28>
+    requires { length echo.now.body.now ≤ 1472 }
+    ensures items { let message = echoed (meaning_of echo.now) in result.items
+        ≡ (internet_header 1).write (packet_header message) [] ++ (echo_header 0).write (message_header 0 message) [] }
+    ensures len { length result.items ≡ 28 }
 {
-    // The shortest frame of Ethernet has 64 octets, 4 of them the check sequence, which the interface appends.
-    if frame.len() < 60 {
-        frame.append(&ZEROS[frame.len()..]);
-    }
-}
-
-/// The headers of the reply to an echo request: of Ethernet, of IPv4 and of the message.
-fn headers(mac: Mac, request: &EchoRequest<'_>) -> ArrayVec<u8, 42>
-    requires { length request.now.echo.body.now ≤ 1472 }
-    ensures items { let message = echoed (meaning_of request.now.echo) in result.items
-        ≡ (link.write (internet_link request.now.source mac) [] ++ icmp_packet.write (packet_header message) [])
-        ++ (echo_header 0).write (message_header 0 message) [] }
-    ensures len { length result.items ≡ 42 }
-{
-    let echo = &request.echo;
     let source = echo.destination;
     let destination = echo.source;
-    let packet = IcmpPacket {
+    let packet = InternetHeader {
         size: echo.body.len() as u16 + 8,
         checksum: 0,
         source,
         destination,
     }
-    .seal();
+    .seal(ICMP);
     let message = EchoHeader {
         checksum: 0,
         identifier: echo.identifier,
         sequence: echo.sequence,
     }
     .seal(ECHO_REPLY, echo.body);
-    let mut out: ArrayVec<u8, 42> = ArrayVec::new();
-    put_link(&mut out, request.source, mac);
-    put_packet(&mut out, &packet);
+    let mut out: ArrayVec<u8, 28> = ArrayVec::new();
+    put_internet_header(&mut out, ICMP, &packet);
     put_echo_header(&mut out, ECHO_REPLY, &message);
     out
 }
@@ -69,12 +53,14 @@ pub(crate) fn echo_reply(mac: Mac, request: &EchoRequest<'_>) -> Frame
     requires { length request.now.echo.body.now ≤ 1472 }
     ensures { result.items ≡ reply_frame mac (asked_by request.now) }
 {
-    let headers = headers(mac, request);
-    let mut frame = Frame::new();
-    frame.append(headers.as_slice());
-    frame.append(request.echo.body);
-    pad(&mut frame);
-    frame
+    let headers = headers(&request.echo);
+    let link = EthernetHeader {
+        destination: request.source,
+        source: mac,
+        tag: None,
+        ether_type: INTERNET,
+    };
+    write_under(&link, headers.as_slice(), request.echo.body)
 }
 
 /// The frame that tells a station that this one holds the address.

@@ -7,10 +7,9 @@ use Rattle.frame_codec.specs.declared.udp.Endpoint.{Endpoint}
 use Rattle.frame_codec.specs.Internet.{internet_header, internet_size, internet_way, packet, size_behind, udp, udp_header}
 use Rattle.frame_codec.specs.Frame.{datagram, ethernet, frame_bytes, layers, mac, padding_of, tag_and_type}
 use Rattle.frame_codec.specs.Meaning.{Meaning, ArpPacket, UdpDatagram}
-use Rattle.services.specs.Echo.{Request, link, reply_frame}
-use Rattle.services.specs.Message.{echo, echo_header, echo_message, echo_packet, icmp_packet, icmp_way}
+use Rattle.services.specs.Echo.{Request, reply_frame}
+use Rattle.services.specs.Message.{echo, echo_header, echo_message, echo_packet}
 use Rattle.lldp.specs.Announcement.{Station, announcement}
-use Rattle.lldp.specs.Frame.{link as lldp_link}
 use Rattle.relations.specs.RelationState.{RelationState}
 use Rattle.controller_core.specs.declared.stored.state.State.{State}
 use Rattle.controller_core.specs.declared.stored.state.State.TheVariants.{Looking, Addressing}
@@ -110,14 +109,14 @@ arp_other destination source asked d s = typed_other _ 0x0806
 
 -- A frame of LLDP.
 pub lldp_other : (station : Station) → length station.mac.octets ≡ 6 → IsOther (announcement station)
-unfolding announcement lldp_link mac tag_and_type
+unfolding announcement ethernet mac tag_and_type
 lldp_other station s = typed_other _ 0x88CC
     (six (λ l. number 12 2 (untagged (announcement (record station { mac = record { octets = l } }))) ≡ 0x88CC) station.mac.octets s
     (λ h i j k l m. refl)) refl refl
 
 -- A reply to an echo request: its protocol is 1 (ICMP).
 pub echo_other : (own : Mac) (request : Request) → length request.source.octets ≡ 6 → length own.octets ≡ 6 → IsOther (reply_frame own request)
-unfolding reply_frame link mac tag_and_type echo echo_packet icmp_packet icmp_way internet_size size_behind echo_message echo_header
+unfolding reply_frame ethernet mac tag_and_type echo echo_packet internet_header internet_way internet_size size_behind echo_message echo_header
 echo_other own request d s =
     six (λ l. IsOther (reply_frame own (record request { source = record { octets = l } }))) request.source.octets d (λ a b c e g h.
     six (λ l. IsOther (reply_frame (record { octets = l }) (record request { source = record { octets = a ∷ b ∷ c ∷ e ∷ g ∷ h ∷ [] } })))

@@ -11,5 +11,5 @@ pub returns-clause-items : goal.returns-clause-items
 unfolding internet_header
 returns-clause-items g c =
     put_behind internet_size c.args.header.now.size _ _ _ _ internet_size_sound c.put_size.ensures.items
-    (put_behind internet_way tt _ _ _ _ internet_way_sound c.put_way.ensures.items
+    (put_behind (internet_way c.args.protocol) tt _ _ _ _ (internet_way_sound c.args.protocol) c.put_way.ensures.items
     (three_behind _ _ _ _ _ _ _ c.append_u16.ensures.items c.append.ensures.items c.append-2.ensures.items))

@@ -13,7 +13,7 @@ returns-clause-items c =
     let before = c.args.frame.now.items in
     let header : c.seal-header.result ≡ (packet_of udp.source udp.destination body).1.0 =
     c.seal-header.ensures ∙ ap (λ (ip : InternetHeader). udp_sealed ip (headers_of udp.source udp.destination body).1 body) c.seal-internet.ensures in
-    let first = c.put_internet_header.ensures.items ∙ ap (λ (xs : List ℕ). xs ++ internet_header.write c.seal-internet.result []) c.new-front.ensures in
+    let first = c.put_internet_header.ensures.items ∙ ap (λ (xs : List ℕ). xs ++ (internet_header 17).write c.seal-internet.result []) c.new-front.ensures in
     datagram_joined udp.source udp.destination body _ _ before _ _ _
     c.seal-internet.ensures header (ap (λ (xs : List ℕ). before ++ xs) first)
     (c.append.ensures.items ∙ (ap (λ (xs : List ℕ). before ++ xs) (c.as_slice.ensures.value ∙ c.put_udp_header.ensures.items) ∙ sym (append_assoc before _ _))) c.append-2.ensures.items
@@ -25,5 +25,5 @@ returns-clause-fits c =
     let header : c.seal-header.result ≡ (packet_of udp.source udp.destination body).1.0 =
     c.seal-header.ensures ∙ ap (λ (ip : InternetHeader). udp_sealed ip (headers_of udp.source udp.destination body).1 body) c.seal-internet.ensures in
     datagram_fits udp.source udp.destination body
-    (subst (λ (h : InternetHeader). internet_header.Fits h) c.seal-internet.ensures c.put_internet_header.ensures.fits)
+    (subst (λ (h : InternetHeader). (internet_header 17).Fits h) c.seal-internet.ensures c.put_internet_header.ensures.fits)
     (subst (λ (h : UdpHeader). udp_header.Fits h) header c.put_udp_header.ensures.fits)
