@@ -112,9 +112,7 @@ module _ (state : State) (header : EthernetHeader) (octets : List ℕ) where
       let from : Endpoint = record { address = x.0.0.source; port = x.1.0.source } in
       let to : Endpoint = record { address = x.0.0.destination; port = x.1.0.destination } in
       let other = refused_port (to.port == call_port) (datagram_in x) (rw e at none) in
-      let found : datagram.read octets ≡ Ok (datagram_in x) = rw e refl in
-      let message = no_message octets (datagram_in x) found in
-      rw (e, message) (refused (is_called state header.destination from to) _ Nothing
+      rw (e, no_message octets x e) (refused (is_called state header.destination from to) _ Nothing
       (uncalled_port (answers_calls state.role) (is_own state header.destination) (is_running state to.address) (to.port == call_port) (is_peer state from.address) other))
 
   pub concern_uncalled : sent_to call_port (datagram.read octets) ≡ None

@@ -6,17 +6,18 @@ use Rattle.wire.specs.Codec.{Codec, ◌>>=◌}
 use Rattle.wire.specs.Formats.{number, then_by, ◌⨾◌, seen, unchecked}
 use Rattle.wire.specs.Checks.{fixed}
 use Rattle.wire.proofs.Fields.{bind_ok, ok_is, number_sound}
+use Rattle.wire.specs.Whole.{loose}
 use Rattle.wire.proofs.Joined.{unchecked_sound}
-use Rattle.pn_values.specs.declared.mac.Mac.{Mac}
+use Rattle.wire.proofs.Wholes.{loose_sound}
 use Rattle.frame_codec.specs.declared.ethernet.EthernetHeader.{EthernetHeader}
 use Rattle.frame_codec.specs.declared.fault.FrameFault.{FrameFault}
 use Rattle.frame_codec.specs.declared.fault.FrameFault.TheVariants.{EtherType, IpHeader}
 use Rattle.frame_codec.specs.declared.internet.InternetHeader.{InternetHeader}
+use Rattle.frame_codec.specs.declared.udp.UdpHeader.{UdpHeader}
 use Rattle.frame_codec.specs.Internet.{internet_header, internet_way, no_fragment, packet}
-use Rattle.frame_codec.specs.Frame.{content_under, datagram, ethernet, frame_of, headed, internet}
-use Rattle.frame_codec.specs.Meaning.{Content}
+use Rattle.frame_codec.specs.Frame.{datagram, frame_of, headed, internet}
 use Rattle.frame_codec.proofs.Headed.{frame_is, header_parts, meaning_behind, meaning_under}
-use Rattle.frame_codec.proofs.Layers.{datagram_sound, ethernet_sound, internet_size_sound, no_fragment_sound}
+use Rattle.frame_codec.proofs.Layers.{ethernet_sound, internet_size_sound, no_fragment_sound, packet_sound}
 use Rattle.services.specs.Message.{EchoMeaning, echo, echo_packet}
 use Rattle.services.specs.Echo.{Request, echo_under, request_of, request_under}
 use Rattle.services.proofs.Sound.{echo_sound}
@@ -106,9 +107,9 @@ unfolding echo echo_packet datagram packet
 other_packet content message s = rw (other_header 1 17 refl content _ _ s.2.1.1.0) refl
 
 -- a packet with a datagram has no echo message
-pub no_message : (content : List ℕ) (found : Content) → datagram.read content ≡ Ok found → (echo 8).read content ≡ Err IpHeader
-unfolding echo echo_packet datagram packet
-no_message content found e = let s = datagram_sound.takes content found e in rw (other_header 17 1 refl content _ _ s.2.1.1.0) refl
+pub no_message : (content : List ℕ) (found : (InternetHeader × List ℕ) × (UdpHeader × List ℕ)) → (loose packet).read content ≡ Ok found → (echo 8).read content ≡ Err IpHeader
+unfolding echo echo_packet packet
+no_message content found e = let s = (loose_sound packet packet_sound).takes content found e in rw (other_header 17 1 refl content _ _ s.1.1.0) refl
 
 -- a frame under EtherType 0x0800 whose packet cannot be read
 frame_fails : (header : EthernetHeader) (content : List ℕ) → header.ether_type ≡ internet → datagram.read content ≡ Err IpHeader → meaning_under header content ≡ Err IpHeader
