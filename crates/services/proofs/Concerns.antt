@@ -2,7 +2,7 @@
 use Rattle.std.proofs.Common.{◌≡◌, ◌==◌, ◌&&◌, ◌||◌, ℕ, ◌≤◌, Bool, true, false, List, [], length, Option, Some, None, Result, Ok, Err, refl, sym, ap, subst, ◌∙◌}
 use Rattle.std.specs.Prelude.{not, if◌then◌else◌}
 use Rattle.std.proofs.lemmas.Bool.{eqb-true}
-use Rattle.wire.specs.Codec.{Codec, ◌>>=◌}
+use Rattle.wire.specs.Codec.{◌>>=◌}
 use Rattle.wire.specs.Formats.{number}
 use Rattle.wire.specs.Whole.{ends_by, everything, loose, pick, refused as refused_format}
 use Rattle.pn_values.specs.declared.mac.Mac.{Mac}
@@ -20,11 +20,7 @@ use Rattle.services.specs.Echo.{Request, echo_under, reply_frame, request_of, re
 use Rattle.services.specs.State.{State, is_own, is_running}
 use Rattle.services.specs.Answer.{Call, after_layers, answer_to, answers_calls, call_in, call_of, disputes, echo_answer, heard, is_asked, is_called, is_group, is_peer, layers_answer, layers_dispute}
 use Rattle.services.specs.Concern.{Concern, Nothing, OtherType, Calls, Asks, IsShort, concern_after, concern_answer, concern_by, concern_call, concern_disputes, concern_in, concern_under, content_concern, datagram_under, echo_concern, has_other_type, is_other, is_other_type, layers_under, meaning_with, other_in, packet_disputes, refused_by}
-use Rattle.services.proofs.Requests.{no_message, request_length}
-
--- the type of the values of a format
-abbrev ValueOf : {F A : Type 0} → Codec F A → Type 0
-ValueOf {A = A} codec = A
+use Rattle.services.proofs.Requests.{ValueOf, no_message, request_length}
 
 -- ---- what follows the Ethernet header decides
 

@@ -13,7 +13,6 @@ use Rattle.frame_codec.specs.declared.ethernet.EthernetHeader.{EthernetHeader}
 use Rattle.frame_codec.specs.declared.fault.FrameFault.{FrameFault}
 use Rattle.frame_codec.specs.declared.fault.FrameFault.TheVariants.{EtherType, IpHeader}
 use Rattle.frame_codec.specs.declared.internet.InternetHeader.{InternetHeader}
-use Rattle.frame_codec.specs.declared.udp.UdpHeader.{UdpHeader}
 use Rattle.frame_codec.specs.Internet.{internet_header, internet_way, no_fragment, packet}
 use Rattle.frame_codec.specs.Frame.{datagram, frame_of, headed, internet}
 use Rattle.frame_codec.proofs.Headed.{frame_is, header_parts, meaning_behind, meaning_under}
@@ -22,6 +21,10 @@ use Rattle.services.specs.Message.{EchoMeaning, echo, echo_packet}
 use Rattle.services.specs.Echo.{Request, echo_under, request_of, request_under}
 use Rattle.services.proofs.Sound.{echo_sound}
 use Rattle.services.proofs.Lengths.{link_length, message_length}
+
+-- the type of the values of a format
+abbrev pub ValueOf : {F A : Type 0} → Codec F A → Type 0
+ValueOf {A = A} codec = A
 
 -- ---- the parts of a frame with an echo request
 
@@ -107,7 +110,7 @@ unfolding echo echo_packet datagram packet
 other_packet content message s = rw (other_header 1 17 refl content _ _ s.2.1.1.0) refl
 
 -- a packet with a datagram has no echo message
-pub no_message : (content : List ℕ) (found : (InternetHeader × List ℕ) × (UdpHeader × List ℕ)) → (loose packet).read content ≡ Ok found → (echo 8).read content ≡ Err IpHeader
+pub no_message : (content : List ℕ) (found : ValueOf packet) → (loose packet).read content ≡ Ok found → (echo 8).read content ≡ Err IpHeader
 unfolding echo echo_packet packet
 no_message content found e = let s = (loose_sound packet packet_sound).takes content found e in rw (other_header 17 1 refl content _ _ s.1.1.0) refl
 
