@@ -40,7 +40,7 @@ identify_bytes parts own xid = answer_bytes 5 xid
 
 -- ---- Get
 
--- the value asked for, or the error that says why there is none: the option or the suboption is unknown
+-- the value asked for, or the error that says why it has no value: the option or the suboption is unknown
 abbrev pub got : Parts → OwnIdentity → Kind → List ℕ
 got parts own kind = elim (value_of parts own kind) [
   | Some value ↦ valued parts own kind

@@ -47,3 +47,8 @@ info_of kind = 0 ∷ 0 ∷ []
 -- a block of a response: BlockInfo and the value; no block for a kind without a value
 abbrev pub valued : Parts → OwnIdentity → Kind → List ℕ
 valued parts own kind = elim (value_of parts own kind) [ Some value ↦ block_bytes kind (info_of kind ++ value) | None ↦ [] ]
+
+-- the most octets that the block of a kind takes: a name has at most 240 octets, a type of station 25
+abbrev pub most_of : Kind → ℕ
+most_of NameOfStation = 247
+most_of kind = 32

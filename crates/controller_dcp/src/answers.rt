@@ -2,10 +2,10 @@
 ghost use Rattle.std.specs.Prelude.{◌≡◌, ◌+◌, ◌≤◌, ◌++◌, length, map};
 ghost use Rattle.std.specs.List.{list_any};
 ghost use Rattle.arrayvec.specs.ArrayVec.{array_vec_len};
-ghost use Rattle.dcp_core.specs.Identify.{most_of};
 ghost use Rattle.dcp_core.specs.Kinds.{blame, is_same};
 ghost use Rattle.dcp_core.specs.Request.{asked, asked_block};
 ghost use Rattle.controller_dcp.specs.Answers.{get_bytes, got, identify_bytes, matches, refusal, refusals, refused_bytes};
+ghost use Rattle.controller_dcp.specs.Values.{most_of};
 
 use crate::blocks::{Blocks, put_answer, put_outcome};
 use crate::values::{matches_block, put_value};
@@ -81,7 +81,7 @@ fn is_same(one: Kind, other: Kind) -> bool
     one.option() == other.option() && one.suboption() == other.suboption()
 }
 
-/// Appends the value of a kind, or the error that says why there is none. There must be room.
+/// Appends the value of a kind, or the error that says why it has no value. There must be room.
 fn put_pair(blocks: &mut Blocks, plan: &Plan, own: &ControllerIdentity, kind: Kind)
     requires { array_vec_len blocks.old + most_of kind ≤ 1213 }
     ensures items { blocks.new.items ≡ blocks.old.items ++ got plan.now own.now kind }

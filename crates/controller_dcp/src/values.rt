@@ -2,9 +2,8 @@
 ghost use Rattle.std.specs.Prelude.{◌≡◌, ◌+◌, ◌≤◌, ◌++◌, is_some, length};
 ghost use Rattle.arrayvec.specs.ArrayVec.{array_vec_len};
 ghost use Rattle.dcp_core.specs.Bytes.{block_bytes};
-ghost use Rattle.dcp_core.specs.Identify.{most_of};
 ghost use Rattle.controller_dcp.specs.Answers.{kind_matches};
-ghost use Rattle.controller_dcp.specs.Values.{ids_of, suite_of, value_of, valued};
+ghost use Rattle.controller_dcp.specs.Values.{ids_of, most_of, suite_of, value_of, valued};
 
 use crate::blocks::{Blocks, put_block};
 use arrayvec::ArrayVec;

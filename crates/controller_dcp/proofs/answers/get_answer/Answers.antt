@@ -7,7 +7,7 @@ use Rattle.dcp_core.specs.declared.kind.Kind.{Kind}
 use Rattle.dcp_core.specs.Request.{AskedBlock, asked_block}
 use Rattle.dcp_core.specs.Bytes.{answer_bytes}
 use Rattle.dcp_core.specs.Get.{firsts_of}
-use Rattle.dcp_core.proofs.Pairs.{IsSoFar, kinds_in, so_far_none, so_far_all, so_far_new, so_far_again, has_room}
+use Rattle.controller_dcp.proofs.Pairs.{IsSoFar, kinds_in, so_far_none, so_far_all, so_far_new, so_far_again, has_room}
 use Rattle.controller_dcp.specs.Answers.{got, get_bytes}
 use Rattle.controller_dcp.proofs.answers.get_answer.Goals as goal
 use Rattle.controller_dcp.proofs.answers.get_answer.Goals.{then-not-is_among, else-not-is_among}

@@ -1,6 +1,6 @@
 -- what was written and what follows make the whole response, and there is room
 use Rattle.std.proofs.Common.{◌≤◌, length}
-use Rattle.dcp_core.proofs.Pairs.{IsSoFar}
+use Rattle.controller_dcp.proofs.Pairs.{IsSoFar}
 use Rattle.controller_dcp.specs.Answers.{got}
 use Rattle.controller_dcp.proofs.answers.get_answer.Given as goal
 
