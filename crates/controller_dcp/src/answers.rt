@@ -3,8 +3,8 @@ ghost use Rattle.std.specs.Prelude.{◌≡◌, ◌+◌, ◌≤◌, ◌++◌, len
 ghost use Rattle.std.specs.List.{list_any};
 ghost use Rattle.arrayvec.specs.ArrayVec.{array_vec_len};
 ghost use Rattle.dcp_core.specs.Kinds.{blame, is_same};
-ghost use Rattle.dcp_core.specs.Request.{asked, asked_block};
-ghost use Rattle.controller_dcp.specs.Answers.{get_bytes, got, identify_bytes, matches, refusal, refusals, refused_bytes};
+ghost use Rattle.dcp_core.specs.Request.{asked};
+ghost use Rattle.controller_dcp.specs.Answers.{get_bytes, got, identify_bytes, matches, refusal, refused_bytes};
 ghost use Rattle.controller_dcp.specs.Values.{most_of};
 
 use crate::blocks::{Blocks, put_answer, put_outcome};
@@ -118,7 +118,7 @@ fn refusal(kind: Kind) -> BlockError
 /// The refusal of each block, in order.
 fn refusals(blocks: &[Block<'_>]) -> ArrayVec<BlockError, 16>
     requires { length blocks.now ≤ 16 }
-    ensures { result.items ≡ refusals (map asked_block blocks.now) }
+    ensures { result.items ≡ map (λ block. refusal block.kind) blocks.now }
 {
     let mut errors = ArrayVec::new();
     for block in blocks {

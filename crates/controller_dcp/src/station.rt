@@ -25,6 +25,7 @@ const IDENTIFY_MULTICAST: Mac = Mac {
 
 /// Appends the answer of the controller of a plan to octets from the network: to an Identify that matches, to a Get, and to a Set, which is
 /// refused. Everything else is answered by nothing, and so is everything if the plan has no identity.
+#[tactic(auto, unfolding(crate::specs::Station::answer_to))]
 pub fn answer(plan: &Plan, octets: &[u8], outbox: &mut Outbox)
     requires { array_vec_len outbox.old < 4 }
     // The earlier frames stay. The answer, if there is one, is exactly this frame.
@@ -37,6 +38,7 @@ pub fn answer(plan: &Plan, octets: &[u8], outbox: &mut Outbox)
 
 /// The answer of a controller with this identity.
 #[inline(never)]
+#[tactic(auto, using(crate::proofs::Untold::other_untold))]
 fn answer_as(plan: &Plan, own: &ControllerIdentity, octets: &[u8], outbox: &mut Outbox)
     requires { array_vec_len outbox.old < 4 }
     ensures { boxed outbox.new ≡ boxed outbox.old ++ cons_option (to_frame plan.now own.now (frame_of octets.now)) [] }

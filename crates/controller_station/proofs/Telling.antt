@@ -43,12 +43,21 @@ record IsTold (plan : Parts) (octets : List ℕ) : Type 0 where
   read : frame_of octets ≡ Ok meaning
   content : meaning.content ≡ RealTime frame_id body
   aimed : is_aimed plan meaning.destination frame_id ≡ true
-  request : request_of frame_id body ≡ Ok asked
+  heard : request_of frame_id body ≡ Ok asked
+
+none_some : {A : Type 0} (x : A) → None ≡ Some x → ⊥
+none_some x e = cc
+
+err_not : {F A : Type 0} (why : F) (value : A) → Err why ≡ Ok value → ⊥
+err_not why value e = cc
+
+not_true : false ≡ true → ⊥
+not_true e = cc
 
 module _ (plan : Parts) (own : OwnIdentity) (octets frame : List ℕ) where
   by_request : (meaning : Meaning) (frame_id : ℕ) (body : List ℕ) (found : Result Asked DcpFault) → frame_of octets ≡ Ok meaning → meaning.content ≡ RealTime frame_id body
       → is_aimed plan meaning.destination frame_id ≡ true → request_of frame_id body ≡ found → to_read plan own meaning.source found ≡ Some frame → IsTold plan octets
-  by_request meaning frame_id body (Err fault) read content aimed is told = absurd cc
+  by_request meaning frame_id body (Err fault) read content aimed is told = absurd (none_some frame told)
   by_request meaning frame_id body (Ok asked) read content aimed is told = record {
     meaning = meaning;
     frame_id = frame_id;
@@ -57,13 +66,13 @@ module _ (plan : Parts) (own : OwnIdentity) (octets frame : List ℕ) where
     read = read;
     content = content;
     aimed = aimed;
-    request = is;
+    heard = is;
   }
 
   by_aim : (meaning : Meaning) (frame_id : ℕ) (body : List ℕ) (b : Bool) → frame_of octets ≡ Ok meaning → meaning.content ≡ RealTime frame_id body
       → (is_aimed plan meaning.destination frame_id && is_another plan meaning.source) ≡ b
       → (if b then to_read plan own meaning.source (request_of frame_id body) else None) ≡ Some frame → IsTold plan octets
-  by_aim meaning frame_id body false read content aim told = absurd cc
+  by_aim meaning frame_id body false read content aim told = absurd (none_some frame told)
   by_aim meaning frame_id body true read content aim told =
       by_request meaning frame_id body (request_of frame_id body) read content
       (and_parts (is_aimed plan meaning.destination frame_id) (is_another plan meaning.source) aim).0 refl told
@@ -72,15 +81,15 @@ module _ (plan : Parts) (own : OwnIdentity) (octets frame : List ℕ) where
       → IsTold plan octets
   by_content meaning (RealTime frame_id body) read is told =
       by_aim meaning frame_id body (is_aimed plan meaning.destination frame_id && is_another plan meaning.source) read is refl told
-  by_content meaning (ArpPacket packet) read is told = absurd cc
-  by_content meaning (UdpDatagram from to body) read is told = absurd cc
+  by_content meaning (ArpPacket packet) read is told = absurd (none_some frame told)
+  by_content meaning (UdpDatagram from to body) read is told = absurd (none_some frame told)
 
   by_frame : (found : Result Meaning FrameFault) → frame_of octets ≡ found → to_frame plan own found ≡ Some frame → IsTold plan octets
-  by_frame (Err fault) is told = absurd cc
+  by_frame (Err fault) is told = absurd (none_some frame told)
   by_frame (Ok meaning) is told = by_content meaning meaning.content is refl told
 
 by_identity : (plan : Parts) (identity : Option OwnIdentity) (octets frame : List ℕ) → answer_by plan identity octets ≡ Some frame → IsTold plan octets
-by_identity plan None octets frame told = absurd cc
+by_identity plan None octets frame told = absurd (none_some frame told)
 by_identity plan (Some own) octets frame told = by_frame plan own octets frame (frame_of octets) refl told
 
 is_told : (plan : Parts) (octets frame : List ℕ) → answer_to plan octets ≡ Some frame → IsTold plan octets
@@ -91,7 +100,7 @@ is_told plan octets frame told = by_identity plan plan.identity octets frame tol
 
 bind_ok : {F A B : Type 0} (read : Result A F) (next : A → Result B F) (y : B) → (read >>= next) ≡ Ok y → (x : A) × (read ≡ Ok x) × (next x ≡ Ok y)
 bind_ok (Ok x) next y e = (x, refl, e)
-bind_ok (Err why) next y e = absurd cc
+bind_ok (Err why) next y e = absurd (err_not why y e)
 
 ok_same : {F A : Type 0} (a b : A) (read : Result A F) → read ≡ Ok a → read ≡ Ok b → a ≡ b
 ok_same a b read one other = cc
@@ -108,14 +117,11 @@ type_by : (frame_id id type : ℕ) (get set identify : Bool) (service : Service)
 type_by frame_id id type true set identify service g s i e = type_of_one Get frame_id id type g
 type_by frame_id id type false true identify service g s i e = type_of_one Set frame_id id type s
 type_by frame_id id type false false true service g s i e = type_of_one Identify frame_id id type i
-type_by frame_id id type false false false service g s i e = absurd cc
+type_by frame_id id type false false false service g s i e = absurd (err_not fault.Service service e)
 
 type_zero : (frame_id id type : ℕ) (service : Service) → service_of frame_id id type ≡ Ok service → type ≡ 0
 type_zero frame_id id type service e =
     type_by frame_id id type (is_for Get frame_id id type) (is_for Set frame_id id type) (is_for Identify frame_id id type) service refl refl refl e
-
-err_not : {F A : Type 0} (why : F) (value : A) → Err why ≡ Ok value → ⊥
-err_not why value e = cc
 
 -- What is cut by a length, and then refused, is not read.
 framed_refused : {A : Type 0} (why short : DcpFault) (lengths : Codec DcpFault ℕ) (bytes : List ℕ) (value : A × List ℕ)
@@ -199,7 +205,7 @@ aimed_by : (plan : Parts) (destination : Mac) (frame_id : ℕ) (identify getting
     → (frame_id ≡ 0xFEFE) ⊎ (frame_id ≡ 0xFEFD)
 aimed_by plan destination frame_id true getting i g e = inl (eqb-true frame_id 0xFEFE i)
 aimed_by plan destination frame_id false true i g e = inr (eqb-true frame_id 0xFEFD g)
-aimed_by plan destination frame_id false false i g e = absurd cc
+aimed_by plan destination frame_id false false i g e = absurd (not_true e)
 
 -- A frame that asks the controller has one of two FrameIDs.
 aimed_under : (plan : Parts) (destination : Mac) (frame_id : ℕ) → is_aimed plan destination frame_id ≡ true → (frame_id ≡ 0xFEFE) ⊎ (frame_id ≡ 0xFEFD)
@@ -229,7 +235,7 @@ pub told_unheard : (plan : Parts) (octets frame : List ℕ) → answer_to plan o
 unfolding heard_of
 told_unheard plan octets frame told =
     let it = is_told plan octets frame told in
-    let none = real_time_dropped it.meaning.source it.frame_id it.body it.asked (aimed_under plan it.meaning.destination it.frame_id it.aimed) it.request in
+    let none = real_time_dropped it.meaning.source it.frame_id it.body it.asked (aimed_under plan it.meaning.destination it.frame_id it.aimed) it.heard in
     ap (heard_read plan.controller) it.read
     ∙ own_or_nothing (pointwise nat_eq it.meaning.destination.octets plan.controller.mac.octets) (heard_content plan.controller.address it.meaning.source it.meaning.content)
     (ap (heard_content plan.controller.address it.meaning.source) it.content ∙ none)
@@ -247,8 +253,8 @@ not_told plan octets None not is = is
 not_told plan octets (Some frame) not is = absurd (not (is_told plan octets frame is))
 
 cyclic_not : (frame_id : ℕ) → is_cyclic frame_id ≡ true → (frame_id ≡ 0xFEFE) ⊎ (frame_id ≡ 0xFEFD) → ⊥
-cyclic_not frame_id cyclic (inl identify) = let e : is_cyclic 0xFEFE ≡ true = subst (λ (id : ℕ). is_cyclic id ≡ true) identify cyclic in cc
-cyclic_not frame_id cyclic (inr getting) = let e : is_cyclic 0xFEFD ≡ true = subst (λ (id : ℕ). is_cyclic id ≡ true) getting cyclic in cc
+cyclic_not frame_id cyclic (inl identify) = not_true (subst (λ (id : ℕ). is_cyclic id ≡ true) identify cyclic)
+cyclic_not frame_id cyclic (inr getting) = not_true (subst (λ (id : ℕ). is_cyclic id ≡ true) getting cyclic)
 
 id_of : Content → ℕ
 id_of (RealTime frame_id body) = frame_id

@@ -1,10 +1,10 @@
 -- All that a station sends at an event, with the answers of its DCP station.
 use Rattle.std.proofs.Common.{◌≡◌, ◌≤◌, ℕ, List, [], ◌∷◌, length, Option, Some, None, refl, sym, ap, ◌∙◌, inl, inr, ◌⊎◌}
 use Rattle.std.specs.List.{cons_option}
-use Rattle.services.specs.Answer.{answer_to as ip_answer_to}
 use Rattle.services.specs.State.{frames_in}
 use Rattle.plans.specs.declared.parts.Parts.{Parts}
-use Rattle.controller_dcp.specs.Station.{answer_to}
+use Rattle.plans.specs.Identity.{OwnIdentity}
+use Rattle.controller_dcp.specs.Station.{answer_by, answer_to}
 use Rattle.controller_core.specs.declared.stored.event.Event.{Event}
 use Rattle.controller_core.specs.declared.stored.event.Event.TheVariants.{Frame, Tick, Give, Status, Read, Write, Stop}
 use Rattle.controller_core.specs.Machine.{step_of}
@@ -71,7 +71,7 @@ untouched served octets frame told = unheard_step served.controller octets (told
 
 unidentified : (plan : Parts) (octets : List ℕ) → plan.identity ≡ None → answer_to plan octets ≡ None
 unfolding answer_to
-unidentified plan octets none = rw none refl
+unidentified plan octets none = ap (λ (identity : Option OwnIdentity). answer_by plan identity octets) none
 
 pub without_identity : (served : Served) (event : Event) → served.controller.setup.plan.identity ≡ None → all_at served event ≡ sent_at served event
 without_identity served (Frame octets) none = untold_all served.controller.setup.plan octets.items (sent_at served (framed octets.items)) (unidentified served.controller.setup.plan octets.items none)

@@ -357,6 +357,7 @@ fn tick_beside(services: &mut ControllerServices, units: u32, outbox: &mut Outbo
 
 /// A frame for which the controller sent these frames: only if it sent none, what is beside receives it.
 #[inline(always)]
+#[tactic(auto, using(crate::proofs::Besides::answered_already, crate::proofs::Telling::told_by_controller))]
 fn hear_beside(
     services: &mut ControllerServices,
     plan: &Plan,
@@ -376,6 +377,7 @@ fn hear_beside(
 }
 
 /// A frame to which the controller sent nothing, and its services these frames: only if they sent none, the DCP station answers.
+#[tactic(auto, using(crate::proofs::Telling::told_by_services, crate::proofs::Telling::told_after_none))]
 fn tell(plan: &Plan, bytes: &[u8], outbox: &mut Outbox)
     ensures { boxed outbox.new ≡ told_frame plan.now bytes.now [] (boxed outbox.old) }
 {
