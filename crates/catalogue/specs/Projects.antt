@@ -56,12 +56,16 @@ told_as vendor_id device_id station_type =
     then Ok (record { vendor_id = vendor_id; device_id = device_id; station_type = station_type })
     else Err (at_key key.StationType Number)
 
+-- the type of station that makes an identity with these numbers
+unfoldable pub typed : ℕ → ℕ → Reader OwnIdentity
+typed vendor_id device_id tree = text_at key.StationType tree >>= told_as vendor_id device_id
+
 -- what the controller says of itself to tools
 unfoldable pub told : Reader OwnIdentity
 told tree =
     number_at key.VendorId 0 65535 tree >>= λ vendor_id.
     number_at key.DeviceId 0 65535 tree >>= λ device_id.
-    text_at key.StationType tree >>= told_as vendor_id device_id
+    typed vendor_id device_id tree
 
 -- what is said in the object that is at a key, if one is
 abbrev pub told_within : Option Data → Result (Option OwnIdentity) PlacedFault

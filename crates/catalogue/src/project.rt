@@ -5,7 +5,7 @@ ghost use Rattle.serde_json.specs.View.{view};
 ghost use Rattle.catalogue.specs.keys.Reader.{Reads};
 ghost use Rattle.plans.specs.Identity.{OwnIdentity};
 ghost use Rattle.catalogue.specs.Modules.{Module};
-ghost use Rattle.catalogue.specs.Projects.{Station, Controller, Project, station, controller, controller_in, reduction, project, told, told_as, told_in};
+ghost use Rattle.catalogue.specs.Projects.{Station, Controller, Project, station, controller, controller_in, reduction, project, told, told_as, told_in, typed};
 
 use crate::SlotItem;
 use crate::keys::{
@@ -112,7 +112,7 @@ fn told_as(
     device_id: u16,
     station_type: &str,
 ) -> Result<ControllerIdentity, PlacedFault>
-    ensures { Gives (λ own. own) result (told_as vendor_id device_id station_type.now) }
+    ensures { Reads (λ own. own) result (told_as vendor_id device_id station_type.now) }
 {
     match ControllerIdentity::new(vendor_id, device_id, station_type.as_bytes()) {
         Some(own) => Ok(own),
@@ -120,21 +120,31 @@ fn told_as(
     }
 }
 
+/// Reads the type of station, and makes the identity with these numbers.
+#[tactic(auto, unfolding(crate::specs::Projects::typed))]
+fn typed(tree: &Value, vendor_id: u16, device_id: u16) -> Result<ControllerIdentity, PlacedFault>
+    ensures { Reads (λ own. own) result (typed vendor_id device_id (view tree.now)) }
+{
+    match text(tree, Key::StationType) {
+        Ok(station_type) => told_as(vendor_id, device_id, station_type),
+        Err(found) => Err(found),
+    }
+}
+
 /// Reads what the controller says of itself to tools from its JSON object.
 #[tactic(auto, unfolding(crate::specs::Projects::told))]
 fn told(tree: &Value) -> Result<ControllerIdentity, PlacedFault>
-    ensures { Gives (λ own. own) result (told (view tree.now)) }
+    ensures { Reads (λ own. own) result (told (view tree.now)) }
 {
     let vendor_id = word_at(tree, Key::VendorId, 0, 0xFFFF)?;
     let device_id = word_at(tree, Key::DeviceId, 0, 0xFFFF)?;
-    let station_type = text(tree, Key::StationType)?;
-    told_as(vendor_id, device_id, station_type)
+    typed(tree, vendor_id, device_id)
 }
 
 /// Reads what the controller says of itself to tools from the object at `Identity`. `None` if the key is absent.
 #[tactic(auto, unfolding(crate::specs::Projects::told_in))]
 fn told_in(tree: &Value) -> Result<Option<ControllerIdentity>, PlacedFault>
-    ensures { Gives (λ identity. identity) result (told_in (view tree.now)) }
+    ensures { Reads (λ identity. identity) result (told_in (view tree.now)) }
 {
     match tree.get(Key::Identity.name()) {
         None => Ok(None),

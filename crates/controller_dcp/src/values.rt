@@ -9,6 +9,7 @@ use crate::blocks::{Blocks, put_block};
 use arrayvec::ArrayVec;
 use dcp_core::{Block, Kind};
 use plans::{ControllerIdentity, Plan};
+use pn_values::IpSuite;
 
 /// BlockInfo of all values but the IP suite.
 const NO_INFO: [u8; 2] = [0, 0];
@@ -41,9 +42,15 @@ fn suite_of(plan: &Plan) -> ArrayVec<u8, 12>
     ensures value { result.items ≡ suite_of plan.now }
     ensures length { length result.items ≡ 12 }
 {
+    joined(plan.controller().address, &plan.station().suite)
+}
+
+/// This address, and mask and gateway of a suite.
+fn joined(address: [u8; 4], suite: &IpSuite) -> ArrayVec<u8, 12>
+    ensures value { result.items ≡ address ++ suite.now.mask ++ suite.now.gateway }
+    ensures length { length result.items ≡ 12 }
+{
     let mut octets = ArrayVec::new();
-    let address = plan.controller().address;
-    let suite = plan.station().suite;
     let _ = octets.try_extend_from_slice(&address);
     let _ = octets.try_extend_from_slice(&suite.mask());
     let _ = octets.try_extend_from_slice(&suite.gateway());
