@@ -1,3 +1,3 @@
-pub mod Joined
+pub mod Lists
 pub mod Pairs
 pub mod Untold

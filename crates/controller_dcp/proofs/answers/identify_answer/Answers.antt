@@ -4,7 +4,6 @@ use Rattle.dcp_core.specs.declared.kind.Kind.TheVariants as is
 use Rattle.dcp_core.specs.Bytes.{answer_bytes}
 use Rattle.controller_dcp.specs.Answers.{identify_bytes}
 use Rattle.controller_dcp.specs.Values.{valued}
-use Rattle.controller_dcp.proofs.Joined.{seven}
 use Rattle.controller_dcp.proofs.answers.identify_answer.Goals as goal
 
 pub returns-clause-items : goal.returns-clause-items
@@ -18,6 +17,4 @@ returns-clause-items c =
     let five = c.put_value-5.ensures.items ∙ ap (λ (xs : List ℕ). xs ++ value is.DeviceOptions) four in
     let six = c.put_value-6.ensures.items ∙ ap (λ (xs : List ℕ). xs ++ value is.DeviceInstance) five in
     let all = c.put_value-7.ensures.items ∙ ap (λ (xs : List ℕ). xs ++ value is.IpSuite) six in
-    c.put_answer.ensures.items
-    ∙ ap (λ (blocks : List ℕ). answer_bytes 5 c.args.xid blocks)
-    (all ∙ seven (value is.StationType) (value is.NameOfStation) (value is.DeviceId) (value is.DeviceRole) (value is.DeviceOptions) (value is.DeviceInstance) (value is.IpSuite))
+    c.put_answer.ensures.items ∙ ap (λ (blocks : List ℕ). answer_bytes 5 c.args.xid blocks) all

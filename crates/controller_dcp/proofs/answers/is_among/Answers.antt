@@ -4,7 +4,7 @@ use Rattle.std.proofs.lemmas.Iterator.{YieldsList-from_slice}
 use Rattle.std.proofs.lemmas.Iterator.Search.{any_from_yields_List}
 use Rattle.dcp_core.specs.declared.request.Block.{Block}
 use Rattle.dcp_core.specs.Kinds.{is_same}
-use Rattle.controller_dcp.proofs.Joined.{list_any-map}
+use Rattle.controller_dcp.proofs.Lists.{list_any-map}
 use Rattle.controller_dcp.proofs.answers.is_among.Goals as goal
 
 pub returns : goal.returns
