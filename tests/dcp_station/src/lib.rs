@@ -155,24 +155,25 @@ fn both_printed(script: &str) -> String {
     String::from_utf8(text).expect("text") + "status 0\n"
 }
 
-/// Whether a catalogue needs what a plan of today does not hold: it is refused, or one of its submodules has another API than 0, or slot 0
-/// has records.
-fn is_extended(script: &str) -> bool {
-    let catalogue = script.lines().next().expect("a line").strip_prefix("config ").unwrap_or("");
-    catalogue.contains("\"ExtendedPlan\":true") || catalogue.contains("\"StartWithMissingModules\":true")
-}
+/// The scripts whose plan has what a plan of today does not hold: other APIs than 0, records of slot 0, longer records, or more of them, more
+/// submodules in a slot, or a start with modules missing. Of them only the answers to tools are compared, in `requests`.
+const LATER: [&str; 19] = [
+    "dcp-s0001", "dcp-s0002", "dcp-s0004", "dcp-s0005", "dcp-s0007", "dcp-s0008", "dcp-s0009",
+    "dcp-s0011", "dcp-s0014", "dcp-s0015", "dcp-s0016", "dcp-s0018", "dcp-s0019", "dcp-s0020",
+    "dcp-s0023", "dcp-s0024", "dcp-s0026", "dcp-s0027", "dcp-s0029",
+];
 
 #[test]
 fn each_script_prints_what_the_model_prints() {
     let mut whole = 0;
     for ((name, lines), (same, wanted)) in each(SCRIPTS).zip(each(PRINTED)) {
         assert_eq!(name, same);
-        if is_extended(lines) {
+        if LATER.contains(&name) {
             continue;
         }
         let text = if lines.contains("\nstart ") { both_printed(lines) } else { printed(lines) };
         assert!(text == wanted, "{name}\n{text}\nwanted\n{wanted}");
         whole += 1;
     }
-    assert_eq!(whole, 25);
+    assert_eq!(whole, 35);
 }

@@ -56,7 +56,7 @@ fn each_request_of_each_script_is_answered_as_the_model_answers() {
             scripts += 1;
         }
     }
-    assert_eq!((scripts, count), (0, 0));
+    assert_eq!((scripts, count), (47, 150));
 }
 
 /// An Identify of all stations, from 02-00-00-00-00-03.
