@@ -39,7 +39,7 @@ extern "C" {
 #endif
 
 /* Octets of the room of a device; its address is a multiple of 16. */
-#define PN_DEVICE_SIZE 77312u
+#define PN_DEVICE_SIZE 73328u
 /* Octets of each of the two flash sectors. An erased sector is all ones; a program call turns ones to zeros. */
 #define PN_SECTOR_SIZE 4096u
 /* The longest frame, without its check sequence, with a VLAN tag; 1,514 without one. A received frame may be longer; it is refused. */

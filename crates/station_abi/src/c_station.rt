@@ -21,7 +21,7 @@ use relations::DeviceOptions;
 const ABI: u32 = 10;
 
 /// The number of octets of the memory for a port.
-const ROOM: usize = 77312;
+const ROOM: usize = 73328;
 
 /// The number of octets of an operation.
 const OP_SIZE: usize = 1680;
