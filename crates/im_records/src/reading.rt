@@ -13,8 +13,8 @@ use block_codec::{Block, Im0, Im1, Im2, Im3, Im4, write_block};
 use pn_values::{Identity, Padded, Real, RealModule, Settings};
 use record_blocks::im0_len;
 
-/// Room for a record.
-pub(crate) type Octets = ArrayVec<u8, 1024>;
+/// Room for a record: as much as an answer has, so that the functions that write blocks are those of answers.
+pub(crate) type Octets = ArrayVec<u8, 1372>;
 
 /// The record with this index at this slot and subslot of a device, or `None` if there is no such record to read: I&M0
 /// (0xAFF0) at each submodule that is plugged, I&M1 to I&M4 (0xAFF1 to 0xAFF4) at slot 0, subslot 1, and I&M0FilterData
@@ -27,7 +27,7 @@ pub fn read_record(
     identity: &Identity,
     real: &Real,
     settings: &Settings,
-) -> Option<ArrayVec<u8, 1024>>
+) -> Option<ArrayVec<u8, 1372>>
     ensures { option_map (λ octets. octets.items) result ≡ record_of index slot subslot identity.now real.now settings.now }
 {
     let kind = Record::of(index)?;

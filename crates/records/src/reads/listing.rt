@@ -262,7 +262,7 @@ pub fn put_identification<const N: usize>(
 
 /// RealIdentificationData of what is asked for. Its octets and lists are large, so it is a function of its own.
 #[inline(never)]
-fn identification_of(real: &Real, level: Level, slot: u16, subslot: u16) -> ArrayVec<u8, 1024>
+fn identification_of(real: &Real, level: Level, slot: u16, subslot: u16) -> ArrayVec<u8, 1372>
     ensures { result.items ≡ identification_bytes 0x0013 (plugged_of real.now level slot subslot) }
 {
     let mut modules = ArrayVec::new();
