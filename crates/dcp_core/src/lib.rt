@@ -24,5 +24,5 @@ pub use law::{answers_are_read, requests_are_read};
 pub use reading::read_request;
 pub use request::{Block, DcpFault, Request, Service};
 pub use response::{Outcome, Response, ResponseBlock, ResponseBlocks};
-pub use set::{fill_plan, plan_block, set_answer, set_plan};
+pub use set::{plan_block, set_answer, set_plan};
 pub use writing::write_request;

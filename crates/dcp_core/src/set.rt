@@ -12,7 +12,7 @@ use arrayvec::ArrayVec;
 use pn_values::{BlockError, Command, IpSuite, SetItem, StationName};
 
 /// The plan of a Set: what each of its blocks asks for, or its error. `in_operation` says whether an application
-/// relation exists.
+/// relation exists. A plan has about 4 KiB: `plan_block` makes one item of it.
 pub fn set_plan(request: &Request<'_>, in_operation: bool) -> ArrayVec<SetItem, 16>
     // The plan has one item for each block, in order: what it asks for, or its error.
     ensures items { result.items ≡ plan_of in_operation (asked request.now) }
@@ -20,22 +20,11 @@ pub fn set_plan(request: &Request<'_>, in_operation: bool) -> ArrayVec<SetItem, 
     ensures count { length result.items ≤ 16 }
 {
     let mut plan = ArrayVec::new();
-    fill_plan(request, in_operation, &mut plan);
-    plan
-}
-
-/// The same, written into the caller's plan, whose contents it replaces: a plan has about 4 KiB.
-pub fn fill_plan(request: &Request<'_>, in_operation: bool, plan: &mut ArrayVec<SetItem, 16>)
-    // The plan has one item for each block, in order: what it asks for, or its error.
-    ensures items { plan.new.items ≡ plan_of in_operation (asked request.now) }
-    // The plan has at most 16 items.
-    ensures count { length plan.new.items ≤ 16 }
-{
     let blocks = request.blocks.as_slice();
-    plan.clear();
     for block in blocks {
         plan.push(plan_block(block, in_operation));
     }
+    plan
 }
 
 /// What one block of a Set asks for, or its error. The first fault is returned: option, suboption, value, and then

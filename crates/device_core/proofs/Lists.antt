@@ -1,6 +1,6 @@
 -- Several records of one Write, from the first.
-use Rattle.std.proofs.Common.{◌≡◌, ℕ, List, [], ◌∷◌, ◌++◌, Option, Some, None, Result, Ok, Err, refl, sym, ap, ◌∙◌, append_assoc}
-use Rattle.std.proofs.lemmas.List.{append-nil}
+use Rattle.std.proofs.Common.{◌≡◌, ◌≤◌, ℕ, List, [], ◌∷◌, ◌++◌, Option, Some, None, Result, Ok, Err, length, refl, sym, ap, ◌∙◌, append_assoc, arith}
+use Rattle.std.proofs.lemmas.List.{append-nil, length-append}
 use Rattle.pn_values.specs.declared.real.Real.{Real}
 use Rattle.pn_values.specs.declared.set_item.SetItem.{SetItem}
 use Rattle.pn_values.specs.declared.set_item.BlockError.{BlockError}
@@ -14,8 +14,17 @@ use Rattle.records.specs.writes.Answer.{outcome_of, outcomes_of}
 use Rattle.records.specs.writes.Entry.{Entry}
 use Rattle.relations.specs.RelationState.{RelationState, uuid_of}
 use Rattle.relations.specs.Phases.{Records, keeping, taking, updated}
-use Rattle.device_core.specs.Several.{judged_each, judged_entry, texts_by, texts_in}
+use Rattle.device_core.specs.Several.{judged_each, judged_entry, text_of, texts_by, texts_in}
 use Rattle.device_core.specs.Machine.{effect_link, link_behind, one_answers, one_link, one_status, statuses_of}
+
+-- A record asks for at most one text.
+text_few : (judged : Result Write Status) → length (texts_by judged) ≤ 1
+text_few (Ok write) = by_effect write.effect
+  where
+    by_effect : (effect : Effect) → length (text_of effect) ≤ 1
+    by_effect (Stores value) = omega arith
+    by_effect (Keeps parameter) = omega arith
+text_few (Err status) = omega arith
 
 module _ (named : List RecordName) (uuid : Option (List ℕ)) (real : Real) where
   pub texts_more : (texts : List SetItem) (entry : Entry) (others left : List Entry) (all : List SetItem) → left ≡ entry ∷ others
@@ -28,6 +37,14 @@ module _ (named : List RecordName) (uuid : Option (List ℕ)) (real : Real) wher
   pub texts_end : (texts : List SetItem) (left : List Entry) (all : List SetItem) → left ≡ [] → texts ++ texts_in (judged_each named uuid real left) ≡ all → texts ≡ all
   texts_end texts left all none so_far =
       sym (append-nil texts) ∙ (ap (λ (entries : List Entry). texts ++ texts_in (judged_each named uuid real entries)) (sym none) ∙ so_far)
+
+  pub texts_few : (entries : List Entry) → length (texts_in (judged_each named uuid real entries)) ≤ length entries
+  texts_few [] = omega arith
+  texts_few (entry ∷ entries) =
+      let one = text_few (judged_entry named uuid real entry) in
+      let others = texts_few entries in
+      let both = length-append (texts_by (judged_entry named uuid real entry)) (texts_in (judged_each named uuid real entries)) in
+      omega (arith, one, others, both)
 
   pub outcomes_more : (blocks : List ℕ) (entry : Entry) (others left : List Entry) (answers : List BlockError) (link : Option RelationState) (all : List ℕ) → left ≡ entry ∷ others
       → blocks ++ outcomes_of (statuses_of (judged_each named uuid real left) answers link) ≡ all

@@ -75,45 +75,75 @@ no_stretch as_flash state holds = record {
   stays_lost = λ lost. lost;
 }
 
+-- No item is carried out, and nothing happens.
+pub carries_nothing : {F : Type 0} {S : ℕ} (as_flash : Flash F S) (state : store.State F) → Holds (as_flash.image state.flash) state.values → Carries as_flash state [] [] state
+carries_nothing as_flash state holds = record {
+  outcomes = [];
+  values = refl;
+  answers_are = refl;
+  inactive = λ _. refl;
+  placed = refl;
+  stretch = no_stretch as_flash state holds;
+  continues = λ first front so_far. subst (λ a. Stretch as_flash first a state) (sym (append-nil front)) so_far;
+  goes_on = record {
+    done = [];
+    refused = [];
+    parts = refl;
+    failed_before = λ _. refl;
+    none_failed = λ _. refl;
+    running = refl;
+    stored = refl;
+    answered = refl;
+  };
+}
+
+-- An outcome that asks something of the settings, which is carried out.
+pub settled_steps : {F : Type 0} {S : ℕ} (as_flash : Flash F S) (old new : State F) (heard : Heard) (what : Handled) (answers : List BlockError)
+    (frames : List (List ℕ)) (said : Note) → handled old.station old.live heard ≡ what
+    → length (items_in what) ≤ 16 → Carries as_flash (store_of old) (items_in what) answers (store_of new)
+    → new.station ≡ old.station → new.live.rest ≡ (finished old.station.identity old.live.rest what answers).rest
+    → frames ≡ map (bytes_of old.station.identity) (finished old.station.identity old.live.rest what answers).sent → said ≡ (finished old.station.identity old.live.rest what answers).note
+    → AreSendable old.station.identity (finished old.station.identity old.live.rest what answers).sent → Steps as_flash old heard frames said new
+unfolding handled_step
+settled_steps as_flash old new heard what answers frames said is_what few carries same rest frames_are note_is sendable =
+    let step = heard_step carries.outcomes old.station old.live heard in
+    let is = handled_as carries.outcomes old.station old.live heard what is_what in
+    let items : items_of old.station old.live heard ≡ items_in what = ap items_in is_what in
+    let end : finished old.station.identity old.live.rest what answers ≡ finished old.station.identity old.live.rest what (carried carries.outcomes old.live.values (items_in what)).answers =
+    ap (finished old.station.identity old.live.rest what) carries.answers_are in
+    let accepted : (carried carries.outcomes old.live.values (items_in what)).accepted ≡ step.accepted = sym (ap (λ s. s.accepted) is) in
+    let live_now : new.live ≡ step.live = rw is (same_live _ _ carries.values (rest ∙ ap (λ e. e.rest) end)) in
+    let frames_now : frames ≡ step.frames = rw is (frames_are ∙ ap (λ e. map (bytes_of old.station.identity) e.sent) end) in
+    let sendable_now : AreSendable old.station.identity step.sent = rw is (subst (λ (e : Finished). AreSendable old.station.identity e.sent) end sendable) in
+    let note_now : said ≡ step.note = rw is (note_is ∙ ap (λ e. e.note) end) in
+    record {
+      outcomes = carries.outcomes;
+      same = same;
+      live = live_now;
+      frames = frames_now;
+      sendable = sendable_now;
+      note = note_now;
+      inactive = carries.inactive;
+      few = subst (λ (i : List SetItem). length i ≤ 16) (sym items) few;
+      placed = subst (λ i. OneByOne as_flash carries.outcomes (store_of old) i (store_of new)) (sym items) carries.placed;
+      stretch = subst (λ a. Stretch as_flash (store_of old) a (store_of new)) accepted carries.stretch;
+      continues = subst (λ a. Continues as_flash (store_of old) a (store_of new)) accepted carries.continues;
+      goes_on = step_goes_on carries.outcomes old.station old.live new.live heard frames said answers live_now frames_now note_now
+          (carries.answers_are ∙ ap (λ i. (carried carries.outcomes old.live.values i).answers) (sym items))
+          (subst (λ i. GoesOn old.live.values i answers new.live.values) (sym items) carries.goes_on);
+    }
+
+-- The same of an outcome that asks nothing of them.
 pub is_inactive_steps : {F : Type 0} {S : ℕ} (as_flash : Flash F S) (old new : State F) (heard : Heard) (frames : List (List ℕ)) (said : Note)
     → Holds (as_flash.image old.flash) old.live.values → IsInactive old new heard frames said → Steps as_flash old heard frames said new
-unfolding inactive_step
 is_inactive_steps as_flash old new heard frames said holds parts =
-    let step = heard_step [] old.station old.live heard in
-    let inactive = is_inactive [] old.station old.live heard parts.asks_nothing in
-    let none : step.accepted ≡ [] = ap (λ s. s.accepted) inactive in
-    let nothing = nothing_asked old.station old.live heard parts.asks_nothing in
-    let live_is : new.live ≡ step.live = rw inactive parts.live in
-    let frames_are : frames ≡ step.frames = rw inactive parts.frames_are in
-    let sendable : AreSendable old.station.identity step.sent = rw inactive parts.sendable in
-    let note_is : said ≡ step.note = rw inactive parts.note_is in
+    let none : items_of old.station old.live heard ≡ [] = nothing_asked old.station old.live heard parts.asks_nothing in
     let same_store : store_of new ≡ store_of old = ap (λ f. record { flash = f; values = new.live.values }) parts.flash ∙ ap (λ l. record { flash = old.flash; values = l.values }) parts.live in
-    record {
-      outcomes = [];
-      same = parts.same;
-      live = live_is;
-      frames = frames_are;
-      sendable = sendable;
-      note = note_is;
-      inactive = λ _. refl;
-      few = subst (λ (items : List SetItem). length items ≤ 16) (sym nothing) (omega arith);
-      placed = subst (λ items. OneByOne as_flash [] (store_of old) items (store_of new)) (sym nothing) same_store;
-      stretch = subst (λ a. Stretch as_flash (store_of old) a (store_of new)) (sym none)
-          (subst (λ s. Stretch as_flash (store_of old) [] s) (sym same_store) (no_stretch as_flash (store_of old) holds));
-      continues = λ first front so_far. subst (λ a. Stretch as_flash first a (store_of new)) (sym (ap (λ a. front ++ a) none ∙ append-nil front))
-          (subst (λ s. Stretch as_flash first front s) (sym same_store) so_far);
-      goes_on = step_goes_on [] old.station old.live new.live heard frames said [] live_is frames_are note_is (ap (λ items. (carried [] old.live.values items).answers) (sym nothing))
-          (record {
-            done = [];
-            refused = [];
-            parts = nothing;
-            failed_before = λ _. refl;
-            none_failed = λ _. refl;
-            running = ap (λ l. l.values.running) parts.live;
-            stored = ap (λ l. l.values.stored) parts.live;
-            answered = refl;
-          });
-    }
+    settled_steps as_flash old new heard (handled old.station old.live heard) [] frames said refl
+    (subst (λ (items : List SetItem). length items ≤ 16) (sym none) (omega arith))
+    (subst (λ items. Carries as_flash (store_of old) items [] (store_of new)) (sym none)
+    (subst (λ s. Carries as_flash (store_of old) [] [] s) (sym same_store) (carries_nothing as_flash (store_of old) holds)))
+    parts.same (ap (λ l. l.rest) parts.live) parts.frames_are parts.note_is parts.sendable
 
 -- An outcome that asks nothing of the settings.
 pub inactive_steps : {F : Type 0} {S : ℕ} (as_flash : Flash F S) (old new : State F) (heard : Heard) (what : Handled) (frames : List (List ℕ)) (said : Note)
@@ -201,42 +231,6 @@ pub get_steps : {F : Type 0} {S : ℕ} (as_flash : Flash F S) (state : State F) 
 get_steps as_flash state asker request frames said holds get frames_are done sendable =
     moves_steps as_flash state state (Asks asker request) state.live.rest (GetAnswer asker state.live.values.running (alias_in state.live.rest.peer) request ∷ []) frames said holds
     (ap (λ s. handled_request state.station state.live asker s request) get) refl frames_are done (sendable, tt)
-
--- An outcome that asks something of the settings, which is carried out.
-pub settled_steps : {F : Type 0} {S : ℕ} (as_flash : Flash F S) (old new : State F) (heard : Heard) (what : Handled) (answers : List BlockError)
-    (frames : List (List ℕ)) (said : Note) → handled old.station old.live heard ≡ what
-    → length (items_in what) ≤ 16 → Carries as_flash (store_of old) (items_in what) answers (store_of new)
-    → new.station ≡ old.station → new.live.rest ≡ (finished old.station.identity old.live.rest what answers).rest
-    → frames ≡ map (bytes_of old.station.identity) (finished old.station.identity old.live.rest what answers).sent → said ≡ (finished old.station.identity old.live.rest what answers).note
-    → AreSendable old.station.identity (finished old.station.identity old.live.rest what answers).sent → Steps as_flash old heard frames said new
-unfolding handled_step
-settled_steps as_flash old new heard what answers frames said is_what few carries same rest frames_are note_is sendable =
-    let step = heard_step carries.outcomes old.station old.live heard in
-    let is = handled_as carries.outcomes old.station old.live heard what is_what in
-    let items : items_of old.station old.live heard ≡ items_in what = ap items_in is_what in
-    let end : finished old.station.identity old.live.rest what answers ≡ finished old.station.identity old.live.rest what (carried carries.outcomes old.live.values (items_in what)).answers =
-    ap (finished old.station.identity old.live.rest what) carries.answers_are in
-    let accepted : (carried carries.outcomes old.live.values (items_in what)).accepted ≡ step.accepted = sym (ap (λ s. s.accepted) is) in
-    let live_now : new.live ≡ step.live = rw is (same_live _ _ carries.values (rest ∙ ap (λ e. e.rest) end)) in
-    let frames_now : frames ≡ step.frames = rw is (frames_are ∙ ap (λ e. map (bytes_of old.station.identity) e.sent) end) in
-    let sendable_now : AreSendable old.station.identity step.sent = rw is (subst (λ (e : Finished). AreSendable old.station.identity e.sent) end sendable) in
-    let note_now : said ≡ step.note = rw is (note_is ∙ ap (λ e. e.note) end) in
-    record {
-      outcomes = carries.outcomes;
-      same = same;
-      live = live_now;
-      frames = frames_now;
-      sendable = sendable_now;
-      note = note_now;
-      inactive = carries.inactive;
-      few = subst (λ (i : List SetItem). length i ≤ 16) (sym items) few;
-      placed = subst (λ i. OneByOne as_flash carries.outcomes (store_of old) i (store_of new)) (sym items) carries.placed;
-      stretch = subst (λ a. Stretch as_flash (store_of old) a (store_of new)) accepted carries.stretch;
-      continues = subst (λ a. Continues as_flash (store_of old) a (store_of new)) accepted carries.continues;
-      goes_on = step_goes_on carries.outcomes old.station old.live new.live heard frames said answers live_now frames_now note_now
-          (carries.answers_are ∙ ap (λ i. (carried carries.outcomes old.live.values i).answers) (sym items))
-          (subst (λ i. GoesOn old.live.values i answers new.live.values) (sym items) carries.goes_on);
-    }
 
 -- A Set of a station: ERR, if a reset ends the relation, and the answer after it.
 pub asked_set_steps : {F : Type 0} {S : ℕ} (as_flash : Flash F S) (old new : State F) (asker : Mac) (request : Asked) (answers : List BlockError) (frames : List (List ℕ)) (said : Note)

@@ -27,7 +27,7 @@ ghost use Rattle.frame_codec.specs.Outbox.{boxed};
 use crate::arp::is_running;
 use crate::asking::{asking_of, is_kept, leave, leave_released};
 use crate::logging::{log_answer, log_arguments, log_connect, log_release, uuid_of};
-use crate::several::{fill_texts, put_outcomes};
+use crate::several::{carry_texts, put_outcomes};
 use crate::{Device, Note};
 use arrayvec::ArrayVec;
 use block_codec::IodWriteReq;
@@ -490,14 +490,15 @@ impl<F: Flash<S>, const S: usize> Device<F, S> {
         ensures reliable { StaysReliable F.Flash self.old self.new }
     {
         let address = self.store.running().suite.address();
-        fill_texts(
+        let mut answers = ArrayVec::new();
+        carry_texts(
             entries,
             &self.named,
             &self.real,
             &self.relation,
-            &mut self.plan,
+            &mut self.store,
+            &mut answers,
         );
-        let answers: ArrayVec<BlockError, 16> = self.store.carry_out(self.plan.as_slice());
         self.answers.blocks.clear();
         put_write_answer(&mut self.answers.blocks, header);
         put_outcomes(

@@ -1,17 +1,17 @@
 // The DCP requests: Identify, Get and Set (IEC 61158-6-10, 4.3).
-ghost use Rattle.std.specs.Prelude.{◌≡◌, ◌<◌, ◌≤◌, ◌+◌, [], ◌∷◌, ◌++◌, is_some, map, option_map};
-ghost use Rattle.std.specs.List.{list_any};
+ghost use Rattle.std.specs.Prelude.{◌≡◌, ◌<◌, ◌≤◌, ◌+◌, ◌||◌, [], ◌∷◌, ◌++◌, is_some, length, map, option_map};
 ghost use Rattle.arrayvec.specs.ArrayVec.{array_vec_len};
-ghost use Rattle.settings_journal.specs.settings_store.Carries.{Holds};
+ghost use Rattle.settings_journal.specs.settings_store.Carries.{Carries, Holds};
 ghost use Rattle.dcp_core.specs.Reading.{request_of};
 ghost use Rattle.dcp_core.specs.Request.{asked};
+ghost use Rattle.dcp_core.specs.Set.{plan_of};
 ghost use Rattle.device_frames.specs.Heard.{Asks, heard_request};
 ghost use Rattle.device_frames.specs.Sendable.{AreSendable, IsSendable};
 ghost use Rattle.device_frames.specs.Sent.{GetAnswer, bytes_of};
 ghost use Rattle.device_core.specs.Behind.{CanSend, frames_of};
 ghost use Rattle.device_core.specs.Handled.{identified};
-ghost use Rattle.device_core.specs.Machine.{farewell_at, farewells_at, finished, is_done as is_done_by, is_reset as is_reset_by, is_signal};
-ghost use Rattle.device_core.specs.Machine.{lamp_after as lamp_of, link_after, resets};
+ghost use Rattle.device_core.specs.Machine.{farewell_at, farewells_at, finished, is_done as is_done_by, is_reset as is_reset_by};
+ghost use Rattle.device_core.specs.Machine.{is_reset_done, lamp_after as lamp_of, link_after, resets};
 ghost use Rattle.device_core.specs.State.{alias_in};
 ghost use Rattle.device_core.specs.Steps.{StaysReliable, Steps};
 ghost use Rattle.frame_codec.specs.Outbox.{boxed};
@@ -19,8 +19,9 @@ ghost use Rattle.frame_codec.specs.Outbox.{boxed};
 use crate::asking::{ended_by, leave};
 use crate::logging::log_err;
 use crate::{Device, Note};
+use arrayvec::ArrayVec;
 use dcp_core::{
-    AliasName, Request, Service, fill_plan, get_answer, identify_answer, identify_matches,
+    AliasName, Request, Service, get_answer, identify_answer, identify_matches, plan_block,
     read_request, set_answer,
 };
 use device_frames::{send_dcp_answer, send_farewell};
@@ -29,6 +30,7 @@ use frame_codec::{DCP_GET_SET, DCP_IDENTIFY_RESPONSE, Outbox};
 use pn_alarms::Abort;
 use pn_values::{BlockError, Command, Identity, Mac, SetItem};
 use relations::{Farewell, Relation};
+use settings_journal::Store;
 
 /// The number of units of 31.25 microseconds for which the lamp flashes after a Signal: 3 seconds.
 const LAMP_UNITS: u32 = 96_000;
@@ -161,11 +163,14 @@ impl<F: Flash<S>, const S: usize> Device<F, S> {
         ensures steps { Steps F.Flash self.old (Asks asker (asked request.now)) (boxed outbox.new) result self.new }
         ensures reliable { StaysReliable F.Flash self.old self.new }
     {
-        fill_plan(request, is_in_operation(&self.relation), &mut self.plan);
-        let answers = self.store.carry_out(self.plan.as_slice());
-        self.lamp = lamp_after(self.lamp, self.plan.as_slice());
-        // A reset that failed leaves the station unchanged, and the relation too.
-        let is_ended = is_ended(self.plan.as_slice(), answers.as_slice());
+        let mut answers = ArrayVec::new();
+        let is_ended = carry_blocks(
+            request,
+            is_in_operation(&self.relation),
+            &mut self.store,
+            &mut self.lamp,
+            &mut answers,
+        );
         // Its ERR is sent before the answer, so that a controller does not exchange data with a station that was reset.
         let farewell = end_if(is_ended, &self.identity, &mut self.relation, outbox);
         log_err(&mut self.log, self.units, &farewell);
@@ -176,14 +181,41 @@ impl<F: Flash<S>, const S: usize> Device<F, S> {
     }
 }
 
-// Whether any reset among these items was answered 'done', with one answer for each item.
-fn is_ended(items: &[SetItem], answers: &[BlockError]) -> bool
-    ensures { result ≡ resets items.now answers.now }
+// Carries out the blocks of a Set in order: each is judged, carried out and answered before the next one is looked at. Appends the answers.
+// Returns whether a reset among them is done: one that failed leaves the station unchanged, and the relation too.
+fn carry_blocks<F: Flash<S>, const S: usize>(
+    request: &Request<'_>,
+    in_operation: bool,
+    store: &mut Store<F, S>,
+    lamp: &mut u32,
+    answers: &mut ArrayVec<BlockError, 16>,
+) -> bool
+    requires stored { Holds (F.image store.old.flash) store.old.values }
+    requires empty { answers.old.items ≡ [] }
+    ensures carries { Carries F.Flash store.old (plan_of in_operation (asked request.now)) answers.new.items store.new }
+    ensures few { length (plan_of in_operation (asked request.now)) ≤ 16 }
+    ensures lamp { lamp.new ≡ lamp_of lamp.old (plan_of in_operation (asked request.now)) }
+    ensures ends { result ≡ resets (plan_of in_operation (asked request.now)) answers.new.items }
+    ensures reliable { F.is_reliable store.old.flash → F.is_reliable store.new.flash
+        × (store.new.values.has_failed ≡ store.old.values.has_failed) }
 {
-    items
-        .iter()
-        .zip(answers.iter())
-        .any(|(item, answer)| is_reset(item) && is_done(*answer))
+    let mut is_ended = false;
+    let blocks = request.blocks.as_slice();
+    for block in blocks {
+        let item = plan_block(block, in_operation);
+        *lamp = lamp_after(*lamp, &item);
+        let answer = store.carry(&item);
+        is_ended = ended_after(is_ended, &item, answer);
+        answers.push(answer);
+    }
+    is_ended
+}
+
+// Whether a reset is done, once this item had this answer; `is_ended` says so of those before it.
+fn ended_after(is_ended: bool, item: &SetItem, answer: BlockError) -> bool
+    ensures { result ≡ (is_ended || is_reset_done (item.now, answer)) }
+{
+    is_ended || (is_reset(item) && is_done(answer))
 }
 
 // Whether an item was answered 'done'.
@@ -233,16 +265,13 @@ fn end_if(
     Some(farewell)
 }
 
-// The number of units for which the lamp flashes after these items; before them it was `lamp`.
-fn lamp_after(lamp: u32, items: &[SetItem]) -> u32
-    ensures { result ≡ lamp_of lamp items.now }
+// The number of units for which the lamp flashes after this item; before it it was `lamp`.
+fn lamp_after(lamp: u32, item: &SetItem) -> u32
+    ensures { result ≡ lamp_of lamp (item.now ∷ []) }
 {
-    if has_signal(items) { LAMP_UNITS } else { lamp }
-}
-
-// Whether any item makes the lamp flash.
-fn has_signal(items: &[SetItem]) -> bool
-    ensures { result ≡ list_any is_signal items.now }
-{
-    items.iter().any(|item| matches!(item, SetItem::Signal))
+    if matches!(item, SetItem::Signal) {
+        LAMP_UNITS
+    } else {
+        lamp
+    }
 }

@@ -20,7 +20,7 @@ use device_records::Log;
 use diagnosis::Diagnoses;
 use flash_model::{Flash, Order};
 use lldp::Neighbour;
-use pn_values::{Identity, Real, SetItem, Settings};
+use pn_values::{Identity, Real, Settings};
 use records::TakenRecord;
 use relations::{DeviceOptions, InputStatus, Phase, ProviderStatus, ReceivedValue, Relation};
 use rpc_core::Uuid;
@@ -60,8 +60,6 @@ pub struct Device<F: Flash<S>, const S: usize> {
     pub(crate) named: NamedRecords,
     // The call that is asked of the application, if there is one.
     pub(crate) asked: AskedRecords,
-    // Room for the plan of a Set; it holds the last one.
-    pub(crate) plan: ArrayVec<SetItem, 16>,
     // The settings, and the flash below them. It is the last: the size of a struct that the prover has to bound doubles with each
     // field that follows one of a type parameter's size.
     pub(crate) store: Store<F, S>,
@@ -403,7 +401,6 @@ impl<F: Flash<S>, const S: usize> Device<F, S> {
             made: _,
             named,
             asked: _,
-            plan: _,
         } = self;
         (identity, given, options, named, store.into_flash())
     }

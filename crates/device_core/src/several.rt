@@ -1,6 +1,8 @@
 //! Several records in one Write (MultipleWrite; IEC 61158-6-10, 5.2.3): each is judged and carried out by itself, in order.
-ghost use Rattle.std.specs.Prelude.{◌≡◌, ◌+◌, ◌*◌, ◌≤◌, ◌++◌, ℕ, List, drop, length, if◌then◌else◌};
+ghost use Rattle.std.specs.Prelude.{◌≡◌, ◌+◌, ◌*◌, ◌≤◌, ◌++◌, [], ℕ, List, drop, length, if◌then◌else◌};
 ghost use Rattle.arrayvec.specs.ArrayVec.{array_vec_len};
+ghost use Rattle.settings_journal.specs.settings_store.Carries.{Carries, Holds};
+ghost use Rattle.settings_journal.specs.settings_store.State.{State as StoreState};
 ghost use Rattle.record_blocks.specs.declared.write_record.IodWriteReq.{IodWriteReq as Header};
 ghost use Rattle.records.specs.declared.status.operation.Operation.TheVariants as operation;
 ghost use Rattle.records.specs.writes.Answer.{answer_of, outcome_of, outcomes_of};
@@ -13,6 +15,7 @@ ghost use Rattle.device_core.specs.Machine.{one_status, statuses_of};
 use crate::calls::written_as;
 use arrayvec::ArrayVec;
 use asked_records::{NamedRecords, Unanswered, asked_name};
+use flash_model::Flash;
 use pn_values::{BlockError, Command, Real, SetItem};
 use records::{
     Blocks, CallFault, Effect, Entries, Entry, Operation, Write, done, judge_record,
@@ -20,36 +23,50 @@ use records::{
 };
 use relations::Relation;
 use rpc_core::Status;
+use settings_journal::Store;
 
-/// Replaces a plan by the I&M texts among these records, in order.
-pub(crate) fn fill_texts(
+/// Stores the I&M texts among these records in order, each before the next record is looked at, and appends the answer to each.
+pub(crate) fn carry_texts<F: Flash<S>, const S: usize>(
     entries: &Entries<'_>,
     named: &NamedRecords,
     real: &Real,
     relation: &Relation,
-    plan: &mut ArrayVec<SetItem, 16>,
+    store: &mut Store<F, S>,
+    answers: &mut ArrayVec<BlockError, 16>,
 )
-    requires { length entries.now ≤ 16 }
-    ensures items { plan.new.items ≡ texts_in (judged_each named.now (uuid_of relation.now) real.now entries.now) }
-    ensures few { length plan.new.items ≤ 16 }
+    requires few { length entries.now ≤ 16 }
+    requires stored { Holds (F.image store.old.flash) store.old.values }
+    requires empty { answers.old.items ≡ [] }
+    ensures carries { Carries F.Flash store.old (texts_in (judged_each named.now (uuid_of relation.now) real.now entries.now)) answers.new.items store.new }
+    ensures few { length (texts_in (judged_each named.now (uuid_of relation.now) real.now entries.now)) ≤ 16 }
+    ensures reliable { F.is_reliable store.old.flash → F.is_reliable store.new.flash
+        × (store.new.values.has_failed ≡ store.old.values.has_failed) }
 {
-    plan.clear();
     let mut left = entries.again();
     while let Some(entry) = left.next() {
         let judged = judge(&entry, named, real, relation);
-        put_text(judged, plan);
+        carry_text(judged, store, answers);
     }
 }
 
-/// Appends the I&M text that a record asks for, if it is one that is accepted. There must be room.
-fn put_text(judged: Result<Write, Status>, plan: &mut ArrayVec<SetItem, 16>)
-    requires { array_vec_len plan.old + 1 ≤ 16 }
-    ensures items { plan.new.items ≡ plan.old.items ++ texts_by judged }
-    ensures few { array_vec_len plan.new ≤ array_vec_len plan.old + 1 }
+/// Stores the I&M text that a record asks for, if it is one that is accepted, and appends the answer. There must be room.
+fn carry_text<F: Flash<S>, const S: usize>(
+    judged: Result<Write, Status>,
+    store: &mut Store<F, S>,
+    answers: &mut ArrayVec<BlockError, 16>,
+)
+    requires { array_vec_len answers.old + 1 ≤ 16 }
+    ensures carries { (first : StoreState F) (items : List SetItem) → Carries F.Flash first items answers.old.items store.old →
+        Carries F.Flash first (items ++ texts_by judged) answers.new.items store.new }
+    ensures reliable { F.is_reliable store.old.flash → F.is_reliable store.new.flash
+        × (store.new.values.has_failed ≡ store.old.values.has_failed) }
+    ensures few { array_vec_len answers.new ≤ array_vec_len answers.old + 1 }
 {
     match judged {
         Ok(write) => match write.effect {
-            Effect::Stores(value) => plan.push(SetItem::Ask(Command::SetIm(value))),
+            Effect::Stores(value) => {
+                answers.push(store.carry(&SetItem::Ask(Command::SetIm(value))));
+            }
             Effect::Keeps(_parameter) => {}
         },
         Err(_status) => {}

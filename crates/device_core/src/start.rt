@@ -65,7 +65,6 @@ impl<F: Flash<S>, const S: usize> Device<F, S> {
             made: 0,
             named,
             asked: AskedRecords::new(),
-            plan: ArrayVec::new(),
         }
     }
 

@@ -165,30 +165,6 @@ answers as_flash state answer holds = alone as_flash state (Answer answer) answe
 pub signals : {F : Type 0} {S : ℕ} (as_flash : Flash F S) (state : State F) → Holds (as_flash.image state.flash) state.values → CarriesItem as_flash state Signal Done state
 signals as_flash state holds = alone as_flash state Signal Done refl holds
 
--- an empty list of items
-pub nothing : {F : Type 0} {S : ℕ} (as_flash : Flash F S) (state : State F) → Holds (as_flash.image state.flash) state.values → Carries as_flash state [] [] state
-nothing as_flash state holds =
-    let stretch : Stretch as_flash state [] state = record {
-      caused = inl (refl, refl);
-      safe = record { left = λ left. left; legal = λ fine left. inl (state.values.room, holds fine); untouched = λ failed. refl };
-      holds = holds;
-      untouched = λ _. refl;
-      stays_failed = λ failed. (failed, refl);
-      made = λ _. refl;
-      room = λ _. omega arith;
-      stays_lost = λ lost. lost;
-    } in
-    record {
-      outcomes = [];
-      values = refl;
-      answers_are = refl;
-      inactive = λ _. refl;
-      placed = refl;
-      stretch = stretch;
-      continues = stretch_continues as_flash state state [] stretch;
-      goes_on = goes_as [] state.values state.values [] [] refl refl;
-    }
-
 -- a list of one item, for outcomes that have their cause
 listed : {F : Type 0} {S : ℕ} (as_flash : Flash F S) (old new : State F) (item : SetItem) (answer : BlockError) (outcomes : List Outcome)
     → (new.values.has_failed ≡ old.values.has_failed → outcomes ≡ [])

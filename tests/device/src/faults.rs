@@ -37,6 +37,34 @@ fn a_set_is_refused_until_the_next_start() {
     device.sends(&frame(&set_pump(b'3')), &DONE);
 }
 
+// A Set of six blocks: a name, a Signal, a second name, an option that does not exist, a third name and a Signal. The commit of the second
+// name fails.
+const SIX: [u8; 84] =
+    *b"\x02\x00\x00\x00\x00\x01\x02\x00\x00\x00\x00\x02\x88\x92\xfe\xfd\x04\x00\x00\x00\x00\x02\x00\x00\x00\x3a\
+    \x02\x02\x00\x08\x00\x01pump-1\x05\x03\x00\x04\x00\x00\x01\x00\x02\x02\x00\x08\x00\x01pump-2\
+    \x07\x01\x00\x02\x00\x00\x02\x02\x00\x08\x00\x01pump-3\x05\x03\x00\x04\x00\x00\x01\x00";
+
+const SIX_ANSWERED: [u8; 74] =
+    *b"\x02\x00\x00\x00\x00\x02\x02\x00\x00\x00\x00\x01\x88\x92\xfe\xfd\x04\x01\x00\x00\x00\x02\x00\x00\x00\x30\
+    \x05\x04\x00\x03\x02\x02\x00\x00\x05\x04\x00\x03\x05\x03\x00\x00\x05\x04\x00\x03\x02\x02\x05\x00\
+    \x05\x04\x00\x03\x07\x01\x01\x00\x05\x04\x00\x03\x02\x02\x05\x00\x05\x04\x00\x03\x05\x03\x00\x00";
+
+// The blocks before the fault are carried out, the lamp flashes, and the commands from the fault on are refused.
+#[test]
+fn a_fault_between_the_blocks_of_a_set() {
+    let mut device = Tried::blank();
+    // The first commit of a flash that was never written makes three calls.
+    device.station.arm(Order::Fault {
+        after: 3,
+        mask: [0; 8],
+    });
+    device.sends(&frame(&SIX), &SIX_ANSWERED);
+    device.is_named(b"pump-1");
+    assert_eq!(device.station.lamp(), 96_000);
+    let device = device.restart();
+    device.is_named(b"pump-1");
+}
+
 #[test]
 fn all_else_goes_on() {
     let mut device = faulted();

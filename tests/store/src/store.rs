@@ -1,6 +1,5 @@
 //! The store over a flash in memory that stays where it is.
 
-use arrayvec::ArrayVec;
 use flash_model::{Lent, MemoryFlash, Order};
 use pn_values::{BlockError, Command, ImValue, Padded, SetItem};
 use settings_journal::BootFault;
@@ -84,8 +83,8 @@ fn an_item_is_one_commit() {
 }
 
 /// What four items are answered.
-fn answers(store: &mut Kept<'_>, items: &[SetItem; 4]) -> ArrayVec<BlockError, 4> {
-    store.carry_out(items)
+fn answers(store: &mut Kept<'_>, items: &[SetItem; 4]) -> [BlockError; 4] {
+    items.each_ref().map(|item| store.carry(item))
 }
 
 #[test]
@@ -104,6 +103,6 @@ fn items_are_carried_out_in_order() {
         BlockError::Suboption,
         BlockError::Done,
     ];
-    assert_eq!(answers(&mut store, &items).as_slice(), wanted.as_slice());
+    assert_eq!(answers(&mut store, &items), wanted);
     runs(&store, b'2');
 }

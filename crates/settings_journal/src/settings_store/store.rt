@@ -1,5 +1,5 @@
 // The store: the running settings beside the stored ones.
-ghost use Rattle.std.specs.Prelude.{◌≡◌, ◌≤◌, ℕ, true, false, IsErr, IfErr, OnOk, OnErr, MatchResult, length, [], ◌∷◌};
+ghost use Rattle.std.specs.Prelude.{◌≡◌, ◌++◌, ℕ, List, true, false, IsErr, IfErr, OnOk, OnErr, MatchResult, [], ◌∷◌};
 ghost use Rattle.flash_model.specs.Calls.{Arms};
 ghost use Rattle.flash_model.specs.Image.{Image, erased};
 ghost use Rattle.pn_values.specs.Settings.{factory_settings};
@@ -7,10 +7,10 @@ ghost use Rattle.pn_values.specs.declared.settings.Settings.{Settings};
 ghost use Rattle.settings_journal.specs.Commit.{HasBootCause};
 ghost use Rattle.settings_journal.specs.Image.{StartsWith, IsAmple, capacity, commits_left, IsForeign, LeftByDevice};
 ghost use Rattle.settings_journal.specs.settings_store.Carries.{Carries, CarriesItem};
+ghost use Rattle.settings_journal.specs.settings_store.State.{State};
 
 use crate::fill::Fill;
 use crate::journal::{BootFault, CommitFault, Journal};
-use arrayvec::ArrayVec;
 use flash_model::{Flash, Order};
 use pn_values::{BlockError, Command, SetItem, Settings};
 use std::marker::Model;
@@ -182,31 +182,15 @@ impl<F: Flash<S>, const S: usize> Store<F, S> {
         self.journal.into_flash()
     }
 
-    /// Carries out items of a Set in order, each by itself, and returns the answer to each.
-    pub fn carry_out<const N: usize>(&mut self, items: &[SetItem]) -> ArrayVec<BlockError, N>
-        requires { length items.now ≤ N }
-        // The items are carried out in order, with these answers, for some outcomes of the flash calls.
-        ensures carries { Carries F.Flash self.old items.now result.items self.new }
-        // A reliable flash stays reliable, and no commit fails on it.
-        ensures reliable { F.is_reliable self.old.flash → F.is_reliable self.new.flash
-            × (self.new.values.has_failed ≡ self.old.values.has_failed) }
-    {
-        // The invariant of the journal holds before the items, too.
-        let _ = &self.journal;
-        let mut answers = ArrayVec::new();
-        for item in items {
-            let answer = self.carry(item);
-            answers.push(answer);
-        }
-        answers
-    }
-
     /// Carries out one item of a Set by itself, and returns its answer.
     pub fn carry(&mut self, item: &SetItem) -> BlockError
         // The item is carried out with this answer, for some outcome of the flash call.
         ensures carries { CarriesItem F.Flash self.old item.now result self.new }
         // The item is carried out like a list of one item.
         ensures listed { Carries F.Flash self.old (item.now ∷ []) (result ∷ []) self.new }
+        // After items that were carried out in order, it is carried out as the next one of them.
+        ensures next { (first : State F) (items : List SetItem) (answers : List BlockError) → Carries F.Flash first items answers self.old →
+            Carries F.Flash first (items ++ item.now ∷ []) (answers ++ result ∷ []) self.new }
         // A reliable flash stays reliable, and no commit fails on it.
         ensures reliable { F.is_reliable self.old.flash → F.is_reliable self.new.flash
             × (self.new.values.has_failed ≡ self.old.values.has_failed) }

@@ -14,17 +14,17 @@ pub returns-clause-steps : goal.returns-clause-steps
 returns-clause-steps g c =
     let request = asked c.args.request.now in
     let link = c.self.inside.relation in
-    let answers = c.carry_out-answers.result.items in
-    let plan : c.fill_plan.new.plan.items ≡ plan_of (is_some link) request = c.fill_plan.ensures.items ∙ ap (λ b. plan_of b request) c.is_in_operation.ensures in
-    let ended : c.is_ended-is_ended.result ≡ resets (plan_of (is_some link) request) answers =
-    c.is_ended-is_ended.ensures ∙ ap (λ i. resets i c.as_slice-4.result.now) (c.as_slice-3.ensures.value ∙ plan) ∙ ap (resets (plan_of (is_some link) request)) c.as_slice-4.ensures.value in
-    let lamp = c.lamp_after-self-inside.ensures ∙ ap (lamp_after c.self.inside.lamp) (c.as_slice-2.ensures.value ∙ plan) in
+    let done = c.carry_blocks-is_ended in
+    let answers = done.new.answers.items in
+    let operates = c.is_in_operation.ensures in
+    let ended : done.result ≡ resets (plan_of (is_some link) request) answers = rw operates at done.ensures.ends in
+    let lamp : done.new.lamp ≡ lamp_after c.self.inside.lamp (plan_of (is_some link) request) = rw operates at done.ensures.lamp in
     let left = c.end_if-farewell.ensures.link ∙ ap (λ e. link_after e link) ended in
     let logged = c.log_err.ensures ∙ ap (λ (f : Option Farewell). err_log f c.self.inside.units c.self.inside.log) (c.end_if-farewell.ensures.farewell ∙ ap (λ e. farewell_at e link) ended) in
     let gone = c.leave.ensures ∙ ap (λ (u : Option (List ℕ)). left_asked u c.self.inside.asked)
     (c.ended_by.ensures ∙ ap ended_by (c.end_if-farewell.ensures.farewell ∙ ap (λ e. farewell_at e link) ended)) in
     rw (← c.self.view_is) (asked_set_steps g.F.Flash _ _ c.args.asker request answers _ _
-    c.requires.service (rw plan at c.fill_plan.ensures.count) (rw (c.as_slice.ensures.value ∙ plan) at c.carry_out-answers.ensures.carries) refl
+    c.requires.service (rw operates at done.ensures.few) (rw operates at done.ensures.carries) refl
     (ap (λ l. record { lamp = l; calls = c.self.inside.answers.kept; link = c.end_if-farewell.new.relation; units = c.self.inside.units; is_running = c.self.inside.is_running; statuses = c.self.inside.statuses.items; log = c.log_err.new.log; peer = option_map peer_as c.self.inside.neighbour; diagnoses = c.self.inside.diagnoses; made = c.self.inside.made; real = c.self.inside.real; asked = c.leave.new.asked }) lamp
     ∙ ap (λ r. record { lamp = lamp_after c.self.inside.lamp (plan_of (is_some link) request); calls = c.self.inside.answers.kept; link = r; units = c.self.inside.units; is_running = c.self.inside.is_running; statuses = c.self.inside.statuses.items; log = c.log_err.new.log; peer = option_map peer_as c.self.inside.neighbour; diagnoses = c.self.inside.diagnoses; made = c.self.inside.made; real = c.self.inside.real; asked = c.leave.new.asked }) left
     ∙ ap (λ l. record { lamp = lamp_after c.self.inside.lamp (plan_of (is_some link) request); calls = c.self.inside.answers.kept; link = link_after (resets (plan_of (is_some link) request) answers) link; units = c.self.inside.units; is_running = c.self.inside.is_running; statuses = c.self.inside.statuses.items; log = l; peer = option_map peer_as c.self.inside.neighbour; diagnoses = c.self.inside.diagnoses; made = c.self.inside.made; real = c.self.inside.real; asked = c.leave.new.asked }) logged
@@ -33,4 +33,4 @@ returns-clause-steps g c =
     (rw ended at c.end_if-farewell.ensures.sendable) (rw c.set_answer-answer.ensures.items at c.send_dcp_answer.ensures.sendable))
 
 pub returns-clause-reliable : goal.returns-clause-reliable
-returns-clause-reliable g c = rw (← c.self.view_is) c.carry_out-answers.ensures.reliable
+returns-clause-reliable g c = rw (← c.self.view_is) c.carry_blocks-is_ended.ensures.reliable

@@ -1,6 +1,7 @@
 -- A signal and an answer change nothing.
 use Rattle.std.proofs.Common.{subst}
 use Rattle.settings_journal.specs.settings_store.Carries.{Holds}
+use Rattle.settings_journal.proofs.SettingsStoreCrash.{carries_then}
 use Rattle.settings_journal.proofs.SettingsStoreSteps.{answers, signals, item_listed}
 use Rattle.settings_journal.proofs.settings_store.store.Store.carry.Goals as goal
 
@@ -24,3 +25,15 @@ returns-in-Signal-clause-listed g c = item_listed g.F.Flash _ _ _ _ (returns-in-
 
 pub returns-in-Ask-clause-listed : goal.returns-in-Ask-clause-listed
 returns-in-Ask-clause-listed g c = rw c.in-Ask.is (item_listed g.F.Flash _ _ _ _ c.commit.ensures.carries)
+
+pub returns-in-Answer-clause-next : goal.returns-in-Answer-clause-next
+returns-in-Answer-clause-next g c first items before so_far =
+    carries_then g.F.Flash first _ _ items _ before _ so_far (returns-in-Answer-clause-listed g c)
+
+pub returns-in-Signal-clause-next : goal.returns-in-Signal-clause-next
+returns-in-Signal-clause-next g c first items before so_far =
+    carries_then g.F.Flash first _ _ items _ before _ so_far (returns-in-Signal-clause-listed g c)
+
+pub returns-in-Ask-clause-next : goal.returns-in-Ask-clause-next
+returns-in-Ask-clause-next g c first items before so_far =
+    carries_then g.F.Flash first _ _ items _ before _ so_far (returns-in-Ask-clause-listed g c)

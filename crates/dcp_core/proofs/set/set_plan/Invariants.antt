@@ -2,7 +2,7 @@
 use Rattle.std.proofs.Common.{◌≡◌, ◌≤◌, length, map, take}
 use Rattle.dcp_core.specs.declared.request.Block.{Block}
 use Rattle.dcp_core.specs.Set.{item_of}
-use Rattle.dcp_core.proofs.set.fill_plan.Given as goal
+use Rattle.dcp_core.proofs.set.set_plan.Given as goal
 
 abbrev pub invariant-loop-block : goal.invariant-loop-block
 invariant-loop-block l = record {
