@@ -5,7 +5,7 @@ ghost use Rattle.controller_core.specs.Machine.{turn_of};
 ghost use Rattle.controller_core.specs.stored.State.{Live};
 ghost use Rattle.end_laws.specs.turns.Turns.{Came, IsTurn, came_by, turn_for};
 
-/// Each turn of a controller's machine is of one of 24 kinds. Each kind says what the next state is, what is
+/// Each turn of a controller's machine is of one of the kinds of `IsTurn`. Each kind says what the next state is, what is
 /// sent, and when the turn occurs. What holds for the turns of each kind holds for all turns. This is a law of the
 /// definition that specifies `Controller::step`; the function has no code.
 pub fn turns_are_of_a_kind()
