@@ -3,9 +3,9 @@ use crate::operations::{asked, lines_of};
 use crate::passed::{BEFORE, exchanging_with};
 use crate::served::octets;
 use c_layout::Op;
-use device_abi::Port;
+use device_abi::{hand_out, serve};
+use device_station::Port;
 use relations::DeviceOptions;
-use station_abi::{hand_out, serve};
 use test_stations::{CONTROL, END, RELEASE, call};
 
 /// The numbers of the operations that report it.

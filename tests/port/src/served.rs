@@ -1,15 +1,14 @@
 //! A port with the services beside its device: the services answer what the device drops, and units of time do the same however
-//! they are divided. The device and its services as `station` runs them, event by event, are what the port is compared with.
+//! they are divided. The device and its services as `device_station::IoStation` runs them, event by event, are what the port is compared with.
 use asked_records::NamedRecords;
 use crate::operations::asked;
 use crate::stations::demo;
-use device_abi::{Operation, Port, play};
+use device_abi::{Operation, hand_out, play, serve};
 use device_core::{Device, Event, Octets, Sink};
+use device_station::{IoStation, Port, StationOutbox};
 use flash_model::{MemoryFlash, Sector};
 use pn_values::demo_identity;
 use relations::DeviceOptions;
-use station::{IoStation, StationOutbox};
-use station_abi::{hand_out, serve};
 use test_stations::SET;
 
 /// A Set of the IP address 192.168.0.2, temporary.
