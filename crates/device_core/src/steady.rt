@@ -2,7 +2,7 @@
 ghost use Rattle.std.specs.Prelude.{◌≡◌, ◌<◌, length};
 ghost use Rattle.frame_codec.specs.Outbox.{boxed};
 ghost use Rattle.device_core.specs.Leaps.{NoneSends, OnlyTheLastSends, live_due_in, ticks_of};
-ghost use Rattle.device_core.specs.Steady.{IsSteadyAt};
+ghost use Rattle.device_core.specs.Steady.{IsSteadyAt, steady_at};
 
 use crate::Device;
 use crate::leaps::units_later;
@@ -14,13 +14,17 @@ impl<F: Flash<S>, const S: usize> Device<F, S> {
     /// When the next units bring something, if only the timers of an exchange run, or if there is no relation. It is unknown if
     /// another timer runs: an alarm or ApplicationReady waits, something is asked of the application, or the lamp flashes.
     pub fn steady(&self) -> Steady
+        ensures value { result ≡ steady_at self.now.live }
         ensures steady { 0 < result.inputs → IsSteadyAt result self.now.live }
         ensures due { 0 < result.inputs → live_due_in self.now.live ≡ result.inputs }
     {
-        if self.lamp != 0 || self.asked.question().is_some() {
+        if self.lamp != 0 {
             return Steady::unknown();
         }
-        self.relation.steady()
+        match self.asked.question() {
+            Some(_) => Steady::unknown(), // it is refused when it was asked for too long
+            None => self.relation.steady(),
+        }
     }
 
     /// Lets units of 31.25 microseconds pass with which nothing is due. It has the same effect as that many Tick events, one by
