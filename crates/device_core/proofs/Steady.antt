@@ -139,9 +139,10 @@ none_standing (Some standing) is = cc is
 pub none_asked : (asked : AskedState) → question_in asked ≡ None → asked.standing ≡ None
 none_asked asked is = none_standing asked.standing is
 
-pub rests : (steady : Steady) (live : Live) → live.rest.lamp ≡ 0 → question_in live.rest.asked ≡ None → steady ≡ steady_in live.rest.link → steady ≡ steady_at live
-rests steady live dark asked is =
-    is ∙ sym (steady_dark live dark ∙ ap (λ (s : Option Standing). steady_beside s live.rest.link) (none_asked live.rest.asked asked))
+pub rests : (steady : Steady) (lamp : ℕ) (standing : Option Standing) (link : Option RelationState) → lamp ≡ 0 → standing ≡ None → steady ≡ steady_in link
+    → steady ≡ (if lamp == 0 then steady_beside standing link else unknown)
+rests steady lamp standing link dark unasked is =
+    is ∙ sym (ap (λ (n : ℕ). if n == 0 then steady_beside standing link else unknown) dark ∙ ap (λ (s : Option Standing). steady_beside s link) unasked)
 
 pub not_known : (steady : Steady) → steady ≡ unknown → 0 < steady.inputs → ⊥
 not_known steady is some = let none : steady.inputs ≡ 0 = ap (λ (s : Steady). s.inputs) is in omega (arith, none, some)

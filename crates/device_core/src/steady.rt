@@ -43,8 +43,9 @@ impl<F: Flash<S>, const S: usize> Device<F, S> {
         self.relation.pass_steady(units, steady);
     }
 
-    /// Lets the units pass up to and including the next one that brings inputs, and replaces the content of the outbox by their
-    /// frame. It has the same effect as that many Tick events, one by one. Inputs must be due before the data hold time is over.
+    /// Lets the units pass up to and including the next one that brings inputs, replaces the content of the outbox by their frame,
+    /// and says when the units after it bring something. It has the same effect as that many Tick events, one by one. Inputs must be
+    /// due before the data hold time is over.
     #[inline(always)]
     pub fn send_steady(&mut self, steady: &mut Steady, outbox: &mut Outbox)
         requires steady { IsSteadyAt steady.old self.old.live }
@@ -53,6 +54,7 @@ impl<F: Flash<S>, const S: usize> Device<F, S> {
         ensures frames { boxed outbox.new ≡ (ticks_of steady.old.inputs self.old.station self.old.live).frames }
         ensures last { OnlyTheLastSends steady.old.inputs self.old.station self.old.live }
         ensures one { length (boxed outbox.new) ≡ 1 }
+        ensures value { steady.new ≡ steady_at self.new.live }
         ensures steady { 0 < steady.new.inputs → IsSteadyAt steady.new self.new.live }
         ensures due { 0 < steady.new.inputs → live_due_in self.new.live ≡ steady.new.inputs }
     {

@@ -11,6 +11,7 @@ use Rattle.cyclic_data.specs.exchange.Units.{Brought}
 use Rattle.expected_places.specs.declared.calls.PlugCall.{PlugCall}
 use Rattle.expected_places.specs.Calls.{PlugQueue, again_in, again_with, counted, counted_by, counted_with, is_again_with}
 use Rattle.expected_places.specs.Calls.{is_again as is_call_again}
+use Rattle.expected_places.specs.Machine.{PlugState}
 use Rattle.relations.specs.declared.phase.Phase.{Phase}
 use Rattle.relations.specs.declared.phase.Phase.TheVariants.{Started, Preparing, Awaiting, Exchanging}
 use Rattle.relations.specs.declared.steady.Steady.{Steady}
@@ -274,6 +275,18 @@ alone_runs link steady alone is few some =
 
 pub known_by : (link : RelationState) (steady : Steady) → is_alone link.phase link.plugs link.flow ≡ true → steady ≡ steady_of link.flow → steady ≡ steady_in (Some link)
 known_by link steady alone is = is ∙ sym (ap (λ (b : Bool). known_if b link.flow) alone)
+
+-- Such a relation, with another exchange whose alarms have nothing to do.
+runs_alone : (phase : Phase) (plugs : PlugState) (flow : Flow) → phase ≡ Exchanging → plugs.calls.standing ≡ None → IsCalm flow → is_alone phase plugs flow ≡ true
+runs_alone phase plugs flow exchanging answered calm =
+    let high = calm.high in
+    let low = calm.low in
+    let closed = calm.closed in
+    rw (exchanging, answered, high, low, closed) refl
+
+pub known_again : (link : RelationState) (new : Flow) (steady : Steady) → link.phase ≡ Exchanging → link.plugs.calls.standing ≡ None → IsCalm new → steady ≡ steady_of new
+    → steady ≡ steady_in (Some (with_flow new link))
+known_again link new steady exchanging answered calm is = known_by (with_flow new link) steady (runs_alone link.phase link.plugs new exchanging answered calm) is
 
 pub unknown_by : (link : RelationState) (steady : Steady) → is_alone link.phase link.plugs link.flow ≡ false → steady ≡ unknown → steady ≡ steady_in (Some link)
 unknown_by link steady alone is = is ∙ sym (ap (λ (b : Bool). known_if b link.flow) alone)

@@ -77,8 +77,8 @@ impl Relation {
         steady.held -= units;
     }
 
-    /// Counts the units up to and including the next one with which inputs are due. They must be due before the data hold time
-    /// is over.
+    /// Counts the units up to and including the next one with which inputs are due, and says when the units after it bring
+    /// something. Inputs must be due before the data hold time is over.
     #[inline(always)]
     pub fn send_steady(&mut self, steady: &mut Steady)
         requires steady { IsSteady steady.old self.old }
@@ -88,6 +88,7 @@ impl Relation {
         ensures last { due_of (units_over (steady.old.inputs - 1) self.old) ≡ inputs_alone }
         ensures some { 0 < steady.old.inputs }
         ensures stands { IsSome self.new }
+        ensures value { steady.new ≡ steady_in self.new }
         ensures steady { 0 < steady.new.inputs → IsSteady steady.new self.new }
         ensures due { 0 < steady.new.inputs → due_within self.new ≡ steady.new.inputs }
     {

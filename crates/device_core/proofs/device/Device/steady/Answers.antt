@@ -38,7 +38,7 @@ returns-in-None-clause-value g c =
     let inside : question_in c.self.inside.asked ≡ None = rw c.in-None.is at (sym c.question.ensures.value) in
     let asked : question_in old.live.rest.asked ≡ None = rw (← c.self.view_is) inside in
     let is : c.steady.result ≡ steady_in old.live.rest.link = rw (← c.self.view_is) c.steady.ensures.value in
-    rests c.steady.result old.live dark asked is
+    rests c.steady.result old.live.rest.lamp old.live.rest.asked.standing old.live.rest.link dark (none_asked old.live.rest.asked asked) is
 
 pub returns-in-None-clause-steady : goal.returns-in-None-clause-steady
 returns-in-None-clause-steady g c some =

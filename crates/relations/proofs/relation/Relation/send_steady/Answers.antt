@@ -5,7 +5,7 @@ use Rattle.relations.specs.declared.phase.Phase.{Phase}
 use Rattle.relations.specs.RelationState.{RelationState, link_in}
 use Rattle.relations.specs.Steady.{IsSteady}
 use Rattle.relations.proofs.Leaps.{begun_kept}
-use Rattle.relations.proofs.SteadyRuns.{stands, steady_before, steady_due, steady_sends, steady_sent, steady_settles}
+use Rattle.relations.proofs.SteadyRuns.{known_again, stands, steady_before, steady_due, steady_sends, steady_sent, steady_settles}
 use Rattle.relations.proofs.relation.Relation.send_steady.Goals as goal
 
 pub send_calm-requires-clause-calm : goal.send_calm-requires-clause-calm
@@ -155,6 +155,27 @@ returns-clause-stands c =
     let link = of found.0 in
     let is : IsSteady c.args.steady.now (Some link) = rw found.1 at inside in
     rw found.1 refl
+
+pub returns-clause-value : goal.returns-clause-value
+returns-clause-value c =
+    let of : Phase → RelationState = λ phase. record {
+      phase = phase;
+      request = c.self.inside.request;
+      partner = c.self.inside.partner;
+      options = c.self.inside.options;
+      began = c.self.inside.began;
+      inactive = c.self.inside.inactive;
+      waited = c.self.inside.waited;
+      taken = c.self.inside.taken;
+      passed = c.self.inside.passed;
+      plugs = c.self.inside.plugs;
+      flow = c.self.inside.exchange;
+    } in
+    let inside : IsSteady c.args.steady.now (link_in c.self.inside.phase of) = rw (← c.self.view_is) at c.requires.steady in
+    let found = stands c.args.steady.now c.self.inside.phase of inside c.requires.first in
+    let link = of found.0 in
+    let is : IsSteady c.args.steady.now (Some link) = rw found.1 at inside in
+    rw found.1 (known_again link c.send_calm.new.self c.steady_of.result is.runs.exchanging is.runs.answered c.send_calm.ensures.calm c.steady_of.ensures.value)
 
 pub returns-clause-steady : goal.returns-clause-steady
 returns-clause-steady c =
