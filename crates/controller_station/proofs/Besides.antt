@@ -100,7 +100,7 @@ unfolding heard_of
 arp_unheard controller octets meaning packet e f = rw (e, f) (either_nothing (pointwise nat_eq meaning.destination.octets controller.mac.octets))
 
 -- To what it drops it sends nothing.
-silent : (old : Controlling) (octets : List ℕ) → heard_of old.setup.plan.controller octets ≡ Nothing → (step_of old (Framed (record { items = octets }))).frames ≡ []
+pub silent : (old : Controlling) (octets : List ℕ) → heard_of old.setup.plan.controller octets ≡ Nothing → (step_of old (Framed (record { items = octets }))).frames ≡ []
 unfolding step_of
 silent old octets e = rw e refl
 
