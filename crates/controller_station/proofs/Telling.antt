@@ -5,9 +5,10 @@ use Rattle.std.specs.Cmp.Lexicographic.{pointwise}
 use Rattle.std.specs.List.{cons_option}
 use Rattle.std.proofs.lemmas.Bool.{and_parts, eqb-true}
 use Rattle.pn_values.specs.declared.mac.Mac.{Mac}
-use Rattle.wire.specs.Codec.{Codec, ◌>>=◌}
+use Rattle.wire.specs.Codec.{Codec}
 use Rattle.wire.specs.Formats.{framed, number, raw, then_by, unchecked, ◌⨾◌}
 use Rattle.wire.specs.Whole.{refused}
+use Rattle.wire.proofs.Fields.{bind_ok}
 use Rattle.frame_codec.specs.declared.arp.Arp.{Arp}
 use Rattle.frame_codec.specs.declared.fault.FrameFault.{FrameFault}
 use Rattle.frame_codec.specs.Frame.{frame_of}
@@ -97,10 +98,6 @@ unfolding answer_to
 is_told plan octets frame told = by_identity plan plan.identity octets frame told
 
 -- ---- a request is no answer
-
-bind_ok : {F A B : Type 0} (read : Result A F) (next : A → Result B F) (y : B) → (read >>= next) ≡ Ok y → (x : A) × (read ≡ Ok x) × (next x ≡ Ok y)
-bind_ok (Ok x) next y e = (x, refl, e)
-bind_ok (Err why) next y e = absurd (err_not why y e)
 
 ok_same : {F A : Type 0} (a b : A) (read : Result A F) → read ≡ Ok a → read ≡ Ok b → a ≡ b
 ok_same a b read one other = cc

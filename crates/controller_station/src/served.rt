@@ -291,6 +291,7 @@ fn restart(services: &mut ControllerServices, plan: &Plan)
 }
 
 /// One event at the controller, and then beside it.
+#[tactic(auto, using(crate::proofs::Besides::plan_kept))]
 fn advance(
     controller: &mut Controller,
     services: &mut ControllerServices,

@@ -10,7 +10,7 @@ use Rattle.controller_station.specs.Runs.{all_at, sent_at}
 use Rattle.controller_station.specs.Served.{answered, no_frames}
 use Rattle.controller_station.proofs.Telling.{arp_untold}
 use Rattle.controller_station.proofs.Told.{few_all, framed, told_all, untold_all}
-use Rattle.controller_station.proofs.Besides.{alone_sent, arp_answered, arp_dropped, few_beside, plan_kept, sent_for, step_keeps}
+use Rattle.controller_station.proofs.Besides.{alone_sent, arp_answered, arp_dropped, few_beside, plan_kept, step_keeps}
 use Rattle.controller_station.proofs.served.ServedController.step.Goals as goal
 
 pub invariant_of-self : goal.invariant_of-self
@@ -48,7 +48,7 @@ returns-clause-arp_dropped c = rw (← c.self.view_is) (λ octets meaning packet
 pub returns-clause-dropped : goal.returns-clause-dropped
 returns-clause-dropped c = rw (← c.self.view_is) (λ octets is e.
     let view = the_view c.self.inside in
-    rw (c.advance.ensures.frames, c.advance.ensures.beside) (ap (answered view.controller.setup.plan c.args.event.now) (ap (sent_for view) is
+    rw (c.advance.ensures.frames, c.advance.ensures.beside) (ap (answered view.controller.setup.plan c.args.event.now) (ap (sent_at view) is
     ∙ alone_sent view c.self.invariant.0 c.self.invariant.1 c.self.invariant.2 octets e)))
 
 pub returns-clause-told : goal.returns-clause-told
