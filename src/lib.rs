@@ -92,7 +92,7 @@ pub mod controller {
     #[doc(inline)]
     pub use crate::frame_codec::Bytes;
     #[doc(inline)]
-    pub use crate::plans::{Layouts, Plan, PlanRecord};
+    pub use crate::plans::{ControllerIdentity, Layouts, Plan, PlanRecord};
 }
 
 /// The allocator that the configurator is handed, which is Rust's global one, and its want of memory.

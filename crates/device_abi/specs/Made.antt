@@ -9,7 +9,7 @@ use Rattle.device_abi.specs.declared.c_station.Station.{Station}
 -- fault of the station.
 abbrev pub why_not_made : ℕ → ℕ → ℕ → Station → ℕ
 why_not_made size abi op_size station =
-    if not (abi == 10 && op_size == 1680) then 2 else (if nat_lt size 77312 then 3 else fault_of station)
+    if not (abi == 11 && op_size == 1680) then 2 else (if nat_lt size 77312 then 3 else fault_of station)
 
 -- A port of this station that did not start, and has no work. Services begin when it starts, unless the station says that it
 -- has none.

@@ -18,7 +18,7 @@ use pn_values::{Identity, Mac, Real};
 use relations::DeviceOptions;
 
 /// The version of the header.
-const ABI: u32 = 10;
+const ABI: u32 = 11;
 
 /// The number of octets of the memory for a port.
 const ROOM: usize = 77312;
