@@ -1,16 +1,18 @@
 -- Units of time while only the timers of an exchange run.
-use Rattle.std.proofs.Common.{◌≡◌, ◌+◌, ◌-◌, ◌%◌, ◌<◌, ◌≤◌, ◌++◌, ℕ, zero, suc, false, List, [], length, map, refl, sym, ap, ◌∙◌, arith, Option, Some, None}
+use Rattle.std.proofs.Common.{◌≡◌, ◌≢◌, ◌+◌, ◌-◌, ◌%◌, ◌<◌, ◌≤◌, ◌==◌, ◌++◌, ℕ, zero, suc, true, false, List, [], length, map, refl, sym, ap, ◌∙◌, arith, Option, Some, None, is_some, option_map, if◌then◌else◌}
 use Rattle.std.specs.Prelude.{min}
+use Rattle.std.proofs.lemmas.Bool.{false≢true, ne_eqb}
 use Rattle.std.proofs.lemmas.List.{append-nil}
 use Rattle.pn_alarms.specs.Leaps.{after, never}
-use Rattle.asked_records.specs.Asked.{AskedState, NeverOver, Standing, due_in, due_with, is_over, later_with, over_with, ticked as asked_ticked}
+use Rattle.pn_values.specs.declared.identity.Identity.{Identity}
+use Rattle.asked_records.specs.Asked.{AskedState, NeverOver, Standing, due_in, due_with, is_over, later_with, over_with, question_in, ticked as asked_ticked}
 use Rattle.asked_records.specs.declared.question.Question.{Question}
 use Rattle.relations.specs.declared.steady.Steady.{Steady}
 use Rattle.relations.specs.declared.farewell.Farewell.{Farewell}
 use Rattle.relations.specs.Leaps.{NothingDueFor, due_within}
 use Rattle.relations.specs.RelationState.{RelationState, flow_of}
 use Rattle.relations.specs.Runs.{units_over}
-use Rattle.relations.specs.Steady.{IsSteady, inputs_alone}
+use Rattle.relations.specs.Steady.{IsSteady, inputs_alone, steady_in, unknown}
 use Rattle.relations.specs.Timers.{Due, due_of}
 use Rattle.device_frames.specs.declared.event.Event.TheVariants.{Tick}
 use Rattle.device_frames.specs.Relation.{due_frames, inputs_of}
@@ -20,7 +22,7 @@ use Rattle.device_core.specs.Handled.{unit_rest, unit_sent}
 use Rattle.device_core.specs.Leaps.{Leapt, OnlyTheLastSends, lamp_off_in, live_due_in, ticks_of}
 use Rattle.device_core.specs.Machine.{step_of}
 use Rattle.device_core.specs.State.{Live, Station, counter_of, units_after}
-use Rattle.device_core.specs.Steady.{IsSteadyAt}
+use Rattle.device_core.specs.Steady.{IsSteadyAt, steady_at, steady_beside}
 use Rattle.device_core.proofs.Leaping.{and_tick, counter_next, later_next, leap_last, live_later, none_late, none_sends, sent_with, tick_frames, ticks_later, with_lamp_and_units}
 
 -- ---- nothing is asked
@@ -38,7 +40,7 @@ never_over asked units none before earlier = ap is_over (unasked_rests asked bef
 -- ---- what is due
 
 inputs_few : (steady : Steady) (link : Option RelationState) → IsSteady steady link → steady.inputs ≤ never
-inputs_few steady None is = let runs = is.runs in omega (arith, runs)
+inputs_few steady None is = let inputs : steady.inputs ≡ never = ap (λ (s : Steady). s.inputs) is.runs in omega (arith, inputs)
 inputs_few steady (Some link) is = let few = is.runs.few in omega (arith, few)
 
 pub steady_due : (steady : Steady) (live : Live) → IsSteadyAt steady live → due_within live.rest.link ≡ steady.inputs → live_due_in live ≡ steady.inputs
@@ -108,3 +110,39 @@ pub only_the_last : (station : Station) (live : Live) (units : ℕ) → 0 < unit
     → live.rest.asked.standing ≡ None → OnlyTheLastSends units station live
 only_the_last station live units some fits none unasked =
     leap_last station live units (units - 1) (omega (arith, some)) (none_sends station live (units - 1) fits none (never_over live.rest.asked (units - 1) unasked))
+
+-- A relation sends one frame.
+pub one_frame : (identity : Identity) (counter : ℕ) (link : Option RelationState) → is_some link ≡ true → length (map (bytes_of identity) (inputs_of counter (flow_of link))) ≡ 1
+one_frame identity counter None stands = absurd (false≢true stands)
+one_frame identity counter (Some link) stands = refl
+
+-- ---- what is known
+
+pub lit : (steady : Steady) (live : Live) → live.rest.lamp ≢ 0 → steady ≡ unknown → steady ≡ steady_at live
+lit steady live on is = is ∙ sym (rw (ne_eqb live.rest.lamp 0 on) refl)
+
+steady_dark : (live : Live) → live.rest.lamp ≡ 0 → steady_at live ≡ steady_beside live.rest.asked.standing live.rest.link
+steady_dark live dark = ap (λ (n : ℕ). if n == 0 then steady_beside live.rest.asked.standing live.rest.link else unknown) dark
+
+beside_one : (standing : Option Standing) (link : Option RelationState) (question : Question) → option_map (λ (s : Standing). s.question) standing ≡ Some question → steady_beside standing link ≡ unknown
+beside_one None link question is = cc is
+beside_one (Some standing) link question is = refl
+
+pub asked_waits : (steady : Steady) (live : Live) (question : Question) → live.rest.lamp ≡ 0 → question_in live.rest.asked ≡ Some question → steady ≡ unknown → steady ≡ steady_at live
+asked_waits steady live question dark asked is =
+    is ∙ sym (steady_dark live dark ∙ beside_one live.rest.asked.standing live.rest.link question asked)
+
+none_standing : (standing : Option Standing) → option_map (λ (s : Standing). s.question) standing ≡ None → standing ≡ None
+none_standing None is = refl
+none_standing (Some standing) is = cc is
+
+pub none_asked : (asked : AskedState) → question_in asked ≡ None → asked.standing ≡ None
+none_asked asked is = none_standing asked.standing is
+
+pub rests : (steady : Steady) (lamp : ℕ) (standing : Option Standing) (link : Option RelationState) → lamp ≡ 0 → standing ≡ None → steady ≡ steady_in link
+    → steady ≡ (if lamp == 0 then steady_beside standing link else unknown)
+rests steady lamp standing link dark unasked is =
+    is ∙ sym (ap (λ (n : ℕ). if n == 0 then steady_beside standing link else unknown) dark ∙ ap (λ (s : Option Standing). steady_beside s link) unasked)
+
+pub not_known : (steady : Steady) → steady ≡ unknown → 0 < steady.inputs → ⊥
+not_known steady is some = let none : steady.inputs ≡ 0 = ap (λ (s : Steady). s.inputs) is in omega (arith, none, some)

@@ -1,6 +1,7 @@
 -- A relation while only the timers of its exchange run.
-use Rattle.std.proofs.Common.{◌≡◌, ◌+◌, ◌-◌, ◌<◌, ◌≤◌, ◌&&◌, ℕ, zero, suc, Bool, true, false, nat_lt, refl, sym, ap, subst, ◌∙◌, arith, Option, Some, None, if◌then◌else◌}
+use Rattle.std.proofs.Common.{◌≡◌, ◌+◌, ◌-◌, ◌<◌, ◌≤◌, ◌&&◌, ℕ, zero, suc, Bool, true, false, not, nat_lt, refl, sym, ap, subst, ◌∙◌, arith, Option, Some, None, is_some, if◌then◌else◌}
 use Rattle.std.specs.Prelude.{min}
+use Rattle.std.proofs.lemmas.Bool.{false≢true}
 use Rattle.std.proofs.lemmas.Bool.Decides.{nat_tests}
 use Rattle.pn_alarms.specs.declared.abort.Abort.{Abort}
 use Rattle.pn_alarms.specs.Leaps.{after, never, waiting_due_in}
@@ -10,10 +11,11 @@ use Rattle.cyclic_data.specs.exchange.Units.{Brought}
 use Rattle.expected_places.specs.declared.calls.PlugCall.{PlugCall}
 use Rattle.expected_places.specs.Calls.{PlugQueue, again_in, again_with, counted, counted_by, counted_with, is_again_with}
 use Rattle.expected_places.specs.Calls.{is_again as is_call_again}
+use Rattle.expected_places.specs.Machine.{PlugState}
 use Rattle.relations.specs.declared.phase.Phase.{Phase}
-use Rattle.relations.specs.declared.phase.Phase.TheVariants.{Exchanging}
+use Rattle.relations.specs.declared.phase.Phase.TheVariants.{Started, Preparing, Awaiting, Exchanging}
 use Rattle.relations.specs.declared.steady.Steady.{Steady}
-use Rattle.relations.specs.exchange.Calm.{IsCalm}
+use Rattle.relations.specs.exchange.Calm.{IsCalm, is_calm}
 use Rattle.relations.specs.exchange.Flow.{Flow}
 use Rattle.relations.specs.exchange.Leaps.{BringNothing, flow_due_in}
 use Rattle.relations.specs.exchange.Units.{flow_later, repeated_of, tick_of}
@@ -21,8 +23,8 @@ use Rattle.relations.specs.Leaps.{NoPlugDueFor, NothingDueFor, due_within, link_
 use Rattle.relations.specs.RelationState.{RelationState, link_in}
 use Rattle.relations.specs.Phases.{with_flow}
 use Rattle.relations.specs.Runs.{unit_over, units_over}
-use Rattle.relations.specs.Steady.{IsSteady, Runs, RunsIn, inputs_alone, steady_of}
-use Rattle.relations.specs.Timers.{Due, due_by, due_of, ending_of}
+use Rattle.relations.specs.Steady.{IsSteady, Runs, RunsIn, inputs_alone, is_alone, known_if, never_due, steady_in, steady_of, unknown}
+use Rattle.relations.specs.Timers.{Due, due_by, due_of, ending_of, is_timed}
 use Rattle.relations.proofs.Kept.{updated_on}
 use Rattle.relations.proofs.Leaps.{later_after, later_by, nothing_after}
 
@@ -211,6 +213,10 @@ at_most steady link is =
     let due = runs_due steady link is.first (subst (Runs steady) (sym same) is.runs) in
     omega (arith, due)
 
+-- Nothing is due before the unit that brings inputs.
+pub steady_before : (steady : Steady) (link : RelationState) → IsSteady steady (Some link) → 0 < steady.inputs → BringNothing (steady.inputs - 1) link.flow → NothingDueFor (steady.inputs - 1) (Some link)
+steady_before steady link is some none = steady_nothing steady link (steady.inputs - 1) is (omega (arith, some)) none
+
 pub steady_sends : (steady : Steady) (link : RelationState) → IsSteady steady (Some link) → 0 < steady.inputs → BringNothing (steady.inputs - 1) link.flow
     → tick_of (after flow_later (steady.inputs - 1) link.flow) ≡ frame_alone → due_of (units_over (steady.inputs - 1) (Some link)) ≡ inputs_alone
 steady_sends steady link is some none last =
@@ -229,6 +235,82 @@ pub steady_settles : (link : RelationState) (new : Flow) (steady : Steady) → l
 steady_settles link new steady phase is few answered calm some =
     subst (λ (l : RelationState). IsSteady steady (Some (with_flow new l))) (at_exchange link phase) (settles link new steady is few answered calm some)
 
+-- ---- what a relation is asked
+
+both_hold : (one other : Bool) → (one && other) ≡ true → (one ≡ true) × (other ≡ true)
+both_hold true other is = (refl, is)
+both_hold false other is = absurd (false≢true is)
+
+fails : (b : Bool) → not b ≡ true → b ≡ false
+fails true is = absurd (false≢true is)
+fails false is = refl
+
+none_there : {A : Type 0} (o : Option A) → not (is_some o) ≡ true → o ≡ None
+none_there None is = refl
+none_there (Some one) is = absurd (false≢true is)
+
+exchanges : (phase : Phase) → not (is_timed phase) ≡ true → phase ≡ Exchanging
+exchanges Started is = absurd (false≢true is)
+exchanges Preparing is = absurd (false≢true is)
+exchanges Awaiting is = absurd (false≢true is)
+exchanges Exchanging is = refl
+
+calm_of : (flow : Flow) → is_calm flow ≡ true → IsCalm flow
+calm_of flow is =
+    let high = both_hold (not (is_some flow.alarms.sender.sending.waiting)) (not (is_some flow.low.alarms.sender.sending.waiting) && not (is_some flow.alarms.sender.standing)) is in
+    let rest = both_hold (not (is_some flow.low.alarms.sender.sending.waiting)) (not (is_some flow.alarms.sender.standing)) high.1 in
+    record {
+      closed = none_there flow.alarms.sender.standing rest.1;
+      high = none_there flow.alarms.sender.sending.waiting high.0;
+      low = none_there flow.low.alarms.sender.sending.waiting rest.0;
+    }
+
+-- Only the timers of its exchange run: what is known is so.
+pub alone_runs : (link : RelationState) (steady : Steady) → is_alone link.phase link.plugs link.flow ≡ true → steady ≡ steady_of link.flow → steady.inputs ≤ 8388608 → 0 < steady.inputs
+    → IsSteady steady (Some link)
+alone_runs link steady alone is few some =
+    let phase = both_hold (not (is_timed link.phase)) (not (is_some link.plugs.calls.standing) && is_calm link.flow) alone in
+    let rest = both_hold (not (is_some link.plugs.calls.standing)) (is_calm link.flow) phase.1 in
+    steady_settles link link.flow steady (exchanges link.phase phase.0) is few (none_there link.plugs.calls.standing rest.0) (calm_of link.flow rest.1) some
+
+pub known_by : (link : RelationState) (steady : Steady) → is_alone link.phase link.plugs link.flow ≡ true → steady ≡ steady_of link.flow → steady ≡ steady_in (Some link)
+known_by link steady alone is = is ∙ sym (ap (λ (b : Bool). known_if b link.flow) alone)
+
+-- Such a relation, with another exchange whose alarms have nothing to do.
+runs_alone : (phase : Phase) (plugs : PlugState) (flow : Flow) → phase ≡ Exchanging → plugs.calls.standing ≡ None → IsCalm flow → is_alone phase plugs flow ≡ true
+runs_alone phase plugs flow exchanging answered calm =
+    let high = calm.high in
+    let low = calm.low in
+    let closed = calm.closed in
+    rw (exchanging, answered, high, low, closed) refl
+
+pub known_again : (link : RelationState) (new : Flow) (steady : Steady) → link.phase ≡ Exchanging → link.plugs.calls.standing ≡ None → IsCalm new → steady ≡ steady_of new
+    → steady ≡ steady_in (Some (with_flow new link))
+known_again link new steady exchanging answered calm is = known_by (with_flow new link) steady (runs_alone link.phase link.plugs new exchanging answered calm) is
+
+pub unknown_by : (link : RelationState) (steady : Steady) → is_alone link.phase link.plugs link.flow ≡ false → steady ≡ unknown → steady ≡ steady_in (Some link)
+unknown_by link steady alone is = is ∙ sym (ap (λ (b : Bool). known_if b link.flow) alone)
+
+pub not_known : (steady : Steady) → steady ≡ unknown → 0 < steady.inputs → ⊥
+not_known steady is some = let none : steady.inputs ≡ 0 = ap (λ (s : Steady). s.inputs) is in omega (arith, none, some)
+
+pub inputs_never : (steady : Steady) → steady ≡ never_due → steady.inputs ≡ never
+inputs_never steady is = ap (λ (s : Steady). s.inputs) is
+
+held_never : (steady : Steady) → steady ≡ never_due → steady.held ≡ never
+held_never steady is = ap (λ (s : Steady). s.held) is
+
+-- Without a relation nothing is ever due.
+pub never_steady : (steady : Steady) → steady ≡ never_due → IsSteady steady None
+never_steady steady is =
+    let inputs = inputs_never steady is in
+    let held = held_never steady is in
+    record { first = omega (arith, inputs, held); runs = is }
+
 -- Inputs that are due before the data hold time is over are those of a relation.
-pub no_relation : (steady : Steady) → IsSteady steady None → steady.inputs < steady.held → steady.held ≤ never → ⊥
-no_relation steady is first most = let none = is.runs in omega (arith, none, first, most)
+pub stands : (steady : Steady) (phase : Option Phase) (link : Phase → RelationState) → IsSteady steady (link_in phase link) → steady.inputs < steady.held → (now : Phase) × (phase ≡ Some now)
+stands steady None link is first =
+    let inputs = inputs_never steady is.runs in
+    let held = held_never steady is.runs in
+    absurd (omega (arith, inputs, held, first))
+stands steady (Some now) link is first = (now, refl)

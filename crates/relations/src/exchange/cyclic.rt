@@ -3,7 +3,7 @@ ghost use Rattle.std.specs.Prelude.{◌≡◌, ◌≢◌, ◌+◌, ◌-◌, ◌<
 ghost use Rattle.pn_alarms.specs.Leaps.{after};
 ghost use Rattle.cyclic_data.specs.Leaps.{frame_due_in};
 ghost use Rattle.cyclic_data.specs.exchange.Leaps.{cyclic_due_in, frame_alone, silent_in};
-ghost use Rattle.relations.specs.exchange.Calm.{IsCalm};
+ghost use Rattle.relations.specs.exchange.Calm.{IsCalm, is_calm};
 ghost use Rattle.relations.specs.exchange.Flow.{state_of};
 ghost use Rattle.relations.specs.exchange.Leaps.{BringNothing, flow_due_in};
 ghost use Rattle.relations.specs.exchange.Received.{behind_frame, received_as};
@@ -114,7 +114,7 @@ impl DataExchange {
 
     /// Whether no process alarm is open, and no alarm of either priority waits for its ACK.
     pub fn is_calm(&self) -> bool
-        ensures { result ≡ true → IsCalm self.now }
+        ensures { result ≡ is_calm self.now }
     {
         !self.alarms.is_waiting() && !self.low.is_waiting() && self.alarms.standing().is_none()
     }

@@ -1,11 +1,10 @@
 -- Units up to the next one that brings inputs, while only the timers of an exchange run.
-use Rattle.std.proofs.Common.{◌≡◌, ◌-◌, ◌<◌, refl, ap, sym, ◌∙◌}
+use Rattle.std.proofs.Common.{◌≡◌, ◌-◌, ◌<◌, List, ℕ, length, refl, ap, ◌∙◌}
 use Rattle.relations.specs.Leaps.{NothingDueFor}
 use Rattle.relations.specs.Runs.{units_over}
 use Rattle.relations.specs.Steady.{inputs_alone}
 use Rattle.relations.specs.Timers.{due_of}
-use Rattle.device_core.specs.Leaps.{Leapt}
-use Rattle.device_core.proofs.Steady.{only_the_last, sends, steady_due, steady_later}
+use Rattle.device_core.proofs.Steady.{one_frame, only_the_last, rests, sends, steady_due, steady_later}
 use Rattle.device_core.proofs.device.Device.send_steady.Goals as goal
 
 pub returns-clause-device : goal.returns-clause-device
@@ -48,4 +47,9 @@ pub returns-clause-due : goal.returns-clause-due
 returns-clause-due g c some = steady_due _ _ (returns-clause-steady g c some) (c.send_steady.ensures.due some)
 
 pub returns-clause-one : goal.returns-clause-one
-returns-clause-one g c = ?
+returns-clause-one g c = ap (λ (frames : List (List ℕ)). length frames) c.send_inputs.ensures.frames ∙ one_frame _ _ _ c.send_steady.ensures.stands
+
+pub returns-clause-value : goal.returns-clause-value
+returns-clause-value g c =
+    let is = rw (← c.self.view_is) at c.requires.steady in
+    rests c.send_steady.new.steady c.self.inside.lamp c.self.inside.asked.standing c.send_steady.new.self is.dark is.unasked c.send_steady.ensures.value
