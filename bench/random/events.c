@@ -3,8 +3,8 @@
  *
  *     events SEED EVENTS [FIRST LAST] < LINES
  *
- * LINES has the frames: `session` those of a start-up, `cyclic` the cyclic frame after the place of its counter, `frame` any other one, the
- * first of them with the address of the station. After each thousand events, and at the end, it prints the hash of all answers, of all fields of the
+ * LINES has the frames: `session` those of a start-up, `cyclic` the cyclic frame after the place of its counter, `ending` one that ends a relation and
+ * comes seldom, the first of them a Release, and `frame` any other one, the first of them with the address of the station. After each thousand events, and at the end, it prints the hash of all answers, of all fields of the
  * operation after each call, and of the octets of all work; then what happened, as counts. With FIRST and LAST it prints each answer of these events. */
 #include "nandutable.h"
 #include <inttypes.h>
@@ -45,8 +45,8 @@ static pn_station station = {
                 {.slot = 2, .subslot = 1, .index = 17, .greatest_length = PN_RECORD_SIZE, .is_readable = 1}}};
 
 static struct session sessions[MOST_SESSIONS];
-static struct frame frames[MOST_FRAMES], cyclic;
-static unsigned session_count, frame_count;
+static struct frame frames[MOST_FRAMES], endings[MOST_FRAMES], cyclic;
+static unsigned session_count, frame_count, ending_count;
 /* Where the counter is in the cyclic frame. */
 static size_t counter_place;
 
@@ -72,7 +72,7 @@ static uint64_t hash = 14695981039346656037u;
 static int is_shown;
 
 static struct {
-    unsigned long answers, sent, relations, cyclic, quiet, alarms, confirmed, asked, commits, starts, refused;
+    unsigned long answers, refused, sent, relations, states, exchanging, cyclic, quiet, alarms, confirmed, asked, commits, starts;
 } count;
 
 /* FNV-1a. */
@@ -237,8 +237,8 @@ static void start(void)
 
 /* --- Calls and start-ups --- */
 
-/* The number of the last call. */
-static unsigned sequence;
+/* The number of the last call. Those in the lines have smaller ones: a call as it is in the lines is an old one. */
+static unsigned sequence = 2000;
 
 static int is_call(const struct frame *frame)
 {
@@ -266,20 +266,38 @@ static void pass(uint32_t units)
 
 static unsigned cycle;
 
-/* A start-up, of which a frame may be missing, with units of time between its frames, and then an input. */
+static int is_exchanging(void)
+{
+    answered(pn_state(&device, &op));
+    count.states++;
+    count.exchanging += op.phase == PN_EXCHANGING;
+    return op.phase == PN_EXCHANGING;
+}
+
+static void hand_in_call(const struct frame *frame)
+{
+    struct frame call = *frame;
+    if (is_call(&call))
+        renew(&call);
+    hand_in(&call);
+    carry_out_all();
+}
+
+/* A start-up, mostly after the Release of a relation that did not come to an exchange, and now and then after a Set of the address, which a reset
+ * may have cleared. A frame of it may be missing. Units of time pass between its frames, and then an input comes. */
 static void begin(void)
 {
     const struct session *session = &sessions[below(session_count)];
     uint8_t value[2] = {(uint8_t)below(256), (uint8_t)below(256)};
+    if (op.phase != PN_NONE && !one_in(4))
+        hand_in_call(&endings[0]);
+    if (one_in(4))
+        hand_in_call(&frames[0]);
     forget_alarms();
     for (unsigned i = 0; i < session->count; i++) {
-        struct frame frame = session->frames[i];
         if (one_in(30))
             continue;
-        if (is_call(&frame))
-            renew(&frame);
-        hand_in(&frame);
-        carry_out_all();
+        hand_in_call(&session->frames[i]);
         if (i == 1 && one_in(2)) {
             answered(pn_ready(&device, &op));
             carry_out_all();
@@ -291,8 +309,7 @@ static void begin(void)
     }
     answered(pn_input(&device, &op, 1, 1, value, sizeof value));
     carry_out_all();
-    answered(pn_state(&device, &op));
-    count.relations += op.phase == PN_EXCHANGING;
+    count.relations += is_exchanging();
     cycle = below(65536);
 }
 
@@ -371,7 +388,7 @@ static void look(void)
 
 static void hear_any(void)
 {
-    struct frame frame = frames[below(frame_count)];
+    struct frame frame = one_in(20) ? endings[below(ending_count)] : frames[below(frame_count)];
     if (is_call(&frame) && !one_in(3))
         renew(&frame);
     if (one_in(15))
@@ -452,7 +469,7 @@ static void happen(int is_talkative)
     if (waiting_count > 0 && one_in(6))
         acknowledge();
     if (one_in(37))
-        answered(pn_state(&device, &op));
+        is_exchanging();
     if (op.phase != PN_EXCHANGING && one_in(20))
         begin();
     else if (which < 330)
@@ -506,12 +523,14 @@ static void read_lines(void)
             counter_place = strtoul(strtok(NULL, " \n"), NULL, 10);
             cyclic.length = read_hex(strtok(NULL, " \n"), cyclic.octets);
         } else {
-            must(frame_count < MOST_FRAMES, "too many frames");
-            frames[frame_count].length = read_hex(strtok(NULL, " \n"), frames[frame_count].octets);
-            frame_count++;
+            int is_ending = strcmp(word, "ending") == 0;
+            unsigned *counted = is_ending ? &ending_count : &frame_count;
+            struct frame *frame = (is_ending ? endings : frames) + *counted;
+            must(++*counted <= MOST_FRAMES, "too many frames");
+            frame->length = read_hex(strtok(NULL, " \n"), frame->octets);
         }
     }
-    must(session_count > 0 && frame_count > 0 && cyclic.length > counter_place + 3, "the lines lack a start-up, a frame or a cyclic frame");
+    must(session_count > 0 && frame_count > 0 && ending_count > 0 && cyclic.length > counter_place + 3, "the lines lack a start-up or a frame");
 }
 
 /* The options of a station: each in one of eight runs, and services in every second one. */
@@ -549,8 +568,9 @@ int main(int words, char **word)
         if (i % 1000 == 999 || i + 1 == events)
             printf("%lu events: %016" PRIx64 "\n", i + 1, hash);
     }
-    printf("answers %lu, refused %lu, frames sent %lu, relations %lu, cyclic frames accepted %lu, quiet ticks %lu, alarms %lu, of these acknowledged %lu, "
-           "records asked %lu, flash programs %lu, starts %lu\n",
-           count.answers, count.refused, count.sent, count.relations, count.cyclic, count.quiet, count.alarms, count.confirmed, count.asked, count.commits, count.starts);
+    printf("answers %lu, refused %lu, frames sent %lu, relations %lu, states read %lu, of these exchanging %lu, cyclic frames accepted %lu, quiet ticks %lu, "
+           "alarms %lu, of these acknowledged %lu, records asked %lu, flash programs %lu, starts %lu\n",
+           count.answers, count.refused, count.sent, count.relations, count.states, count.exchanging, count.cyclic, count.quiet, count.alarms, count.confirmed,
+           count.asked, count.commits, count.starts);
     return 0;
 }
