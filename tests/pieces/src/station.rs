@@ -1,9 +1,9 @@
 //! A call in fragments at a station: each but the last one is acknowledged, and the last one is answered by the device.
 
-use device_station::{IoStation, StationOutbox};
 use super::passes::{body, connect, write};
 use super::writer::{Packet, fragment};
 use device_core::Note;
+use device_station::{IoStation, StationOutbox};
 use flash_model::MemoryFlash;
 use frame_codec::{Bytes, Outbox, ones_sum};
 use test_stations::{addressed, frame as heard};

@@ -95,7 +95,7 @@ fn ack() -> Vec<u8> {
 }
 
 /// A cyclic frame with this CycleCounter.
-fn outputs(counter: u16) -> Vec<u8> {
+pub(crate) fn outputs(counter: u16) -> Vec<u8> {
     octets(&format!("0200000000010200000000028100c0008892c000aa558080808080{:066}{counter:04x}3500", 0))
 }
 

@@ -1,9 +1,9 @@
 //! Operations as a host in C calls them: numbers, answers, and where the reported values are.
 use crate::served::{alone, booted, busy, lost, made};
 use c_layout::Op;
-use std::mem::offset_of;
 use device_abi::{Reason, hand_out, serve};
 use device_station::Port;
+use std::mem::offset_of;
 use test_stations::SET;
 
 /// The header of the device.

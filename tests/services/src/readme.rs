@@ -1,9 +1,9 @@
 //! The example of the README, as it is printed there: `ci/documents` compares them.
 
-use device_station::{IoStation, StationOutbox};
 use super::stations::{PING, PINGED, SET_ADDRESS};
 use super::octets;
 use device_core::{Device, Event, Note, Octets};
+use device_station::{IoStation, StationOutbox};
 use flash_model::MemoryFlash;
 use pn_values::{Identity, Real, demo_identity, demo_modules};
 

@@ -1,8 +1,8 @@
 //! A device and the services beside it: a run and a cycle of them, and several units at once.
 
-use device_station::{IoStation, StationOutbox, cycle};
 use super::{ANNOUNCEMENT, octets};
 use device_core::{Device, Event, Note, Octets, Sink};
+use device_station::{IoStation, StationOutbox, cycle};
 use flash_model::MemoryFlash;
 use frame_codec::Frame;
 use lldp::Link;
