@@ -1,7 +1,7 @@
 //! The limits of some plans, computed by hand from the formulas:
 //! N = writes + 5, N' = repeat + 4 * patience + waiting + inactivity + 2 * hold + 2 * pause + N + 14.
 
-use progress::{Plan, comeback_limit, start_up_limit};
+use super::{Plan, comeback_limit, start_up_limit};
 
 /// `pump.json` at the Linux controller with `--retry 5`; the same with two records; that with `--patience 5` and `--retry 1`.
 /// Each has its writes, patience, waiting, hold, inactivity, repeat, pause, N, N' and the seconds of N'.

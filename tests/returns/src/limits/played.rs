@@ -1,7 +1,7 @@
 //! The model, played from a start and from many states.
 
-use crate::model::{Ask, Link, Phase, State, ToController, ToDevice, World};
-use progress::{Plan, comeback_limit, start_up_limit};
+use super::small_world::{Ask, Link, Phase, State, ToController, ToDevice, World};
+use super::{Plan, comeback_limit, start_up_limit};
 
 /// Numbers that look random.
 struct Numbers(u64);

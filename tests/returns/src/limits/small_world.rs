@@ -1,6 +1,6 @@
 //! A model of the small world.
 
-use progress::Plan;
+use super::Plan;
 
 #[derive(Clone, Copy, PartialEq, Debug)]
 pub enum Ask {

@@ -1,6 +1,12 @@
-//! What a plan and its hosts say of times, and the limits that follow. All times are in units of 31.25 microseconds.
-ghost use Rattle.std.specs.Prelude.{◌≡◌};
-ghost use Rattle.progress.specs.Limits.{comeback_limit, start_up_limit};
+//! The limits of coming back, by the times of a plan and its hosts: of some plans computed by hand, and beside a model of a small world that
+//! shares no line with the product, played from many states: none needs more rounds than the limits say. All times are in units of 31.25 microseconds.
+
+#[cfg(test)]
+mod by_hand;
+#[cfg(test)]
+mod played;
+#[cfg(test)]
+mod small_world;
 
 /// The numbers of a plan and its hosts.
 #[derive(Clone, Copy, Debug, PartialEq, Eq)]
@@ -21,24 +27,14 @@ pub struct Plan {
     pub pause: u32,
 }
 
-/// Within how many units both ends exchange data after a start: the device has no relation, and the controller has sent its
-/// Identify.
-pub fn start_up_limit(plan: Plan) -> u64
-    ensures { result ≡ start_up_limit plan }
-{
+/// Within how many units both ends exchange data after a start: the device has no relation, and the controller has sent its Identify.
+pub fn start_up_limit(plan: Plan) -> u64 {
     u64::from(plan.writes) + 5
 }
 
 /// Within how many units both ends exchange data from any state.
-pub fn comeback_limit(plan: Plan) -> u64
-    ensures { result ≡ comeback_limit plan }
-{
+pub fn comeback_limit(plan: Plan) -> u64 {
     let patience = 4 * u64::from(plan.patience) + u64::from(plan.waiting);
     let silence = u64::from(plan.inactivity) + 2 * u64::from(plan.hold);
-    u64::from(plan.repeat)
-        + patience
-        + silence
-        + 2 * u64::from(plan.pause)
-        + start_up_limit(plan)
-        + 14
+    u64::from(plan.repeat) + patience + silence + 2 * u64::from(plan.pause) + start_up_limit(plan) + 14
 }
