@@ -259,9 +259,11 @@ static void renew(struct frame *call)
     put_number(sum, ~total & 0xFFFF);
 }
 
-static void pass(uint32_t units)
+static uint32_t pass(uint32_t units)
 {
-    count.quiet += answered(pn_tick(&device, &op, units)) == PN_OK && op.work == PN_NOTHING;
+    uint32_t answer = answered(pn_tick(&device, &op, units));
+    count.quiet += answer == PN_OK && op.work == PN_NOTHING;
+    return answer;
 }
 
 static unsigned cycle;
@@ -351,10 +353,17 @@ static void hear_cyclic(void)
     carry_out(20);
 }
 
+/* Units of time pass. Those that remain after a unit that sends are handed in again, mostly, as a host does, but not more often than this. */
+#define MOST_TURNS 60
+
 static void time_passes(void)
 {
-    uint32_t kind = below(10);
-    pass(kind < 3 ? 1 : kind < 6 ? below(8) : kind < 9 ? below(70) : below(3000));
+    uint32_t kind = below(10), units = kind < 3 ? 1 : kind < 6 ? below(8) : kind < 9 ? below(70) : below(3000);
+    unsigned turns = one_in(4) ? 1 : MOST_TURNS;
+    while (turns-- > 0 && pass(units) == PN_OK && op.units > 0) {
+        units = op.units;
+        carry_out(200);
+    }
     carry_out(12);
 }
 
@@ -462,28 +471,41 @@ static void acknowledge(void)
     carry_out_all();
 }
 
-/* One event. With some seeds the application says nothing, so that an exchange lasts. */
-static void happen(int is_talkative)
+/* What a run has much or little of: of a thousand events that many cyclic frames, frames of others, and words of the application; and in how many events
+ * the controller answers an alarm once. */
+static struct {
+    uint32_t cyclic, others, said, answering;
+} mood;
+
+static void choose_mood(void)
 {
-    uint32_t which = below(1000);
-    if (waiting_count > 0 && one_in(6))
+    mood.cyclic = one_in(4) ? 30 : 330;
+    mood.others = one_in(2) ? 8 : 150;
+    mood.said = one_in(3) ? 4 : 60;
+    mood.answering = one_in(2) ? 100 : 6;
+}
+
+/* One event. */
+static void happen(void)
+{
+    if (waiting_count > 0 && one_in(mood.answering))
         acknowledge();
     if (one_in(37))
         is_exchanging();
     if (op.phase != PN_EXCHANGING && one_in(20))
         begin();
-    else if (which < 330)
+    else if (below(1000) < mood.cyclic)
         hear_cyclic();
-    else if (which < 720)
-        time_passes();
-    else if (which < 800)
-        give();
-    else if (which < 860)
-        look();
-    else if (which < 960 || !is_talkative)
+    else if (below(1000) < mood.others)
         hear_any();
-    else
+    else if (below(1000) < mood.said)
         say();
+    else if (!one_in(4))
+        time_passes();
+    else if (one_in(2))
+        give();
+    else
+        look();
 }
 
 /* --- The lines --- */
@@ -549,7 +571,6 @@ static void choose_options(void)
 int main(int words, char **word)
 {
     unsigned long events, first, last;
-    int is_talkative;
     must(words == 3 || words == 5, "events SEED EVENTS [FIRST LAST]");
     chance = strtoull(word[1], NULL, 10) * 7919 + 17;
     events = strtoul(word[2], NULL, 10);
@@ -558,13 +579,13 @@ int main(int words, char **word)
     read_lines();
     memset(chip, 0xFF, sizeof chip);
     choose_options();
-    is_talkative = !one_in(4);
+    choose_mood();
     start();
     for (unsigned long i = 0; i < events; i++) {
         is_shown = i >= first && i < last;
         if (is_shown)
             printf("event %lu\n", i);
-        happen(is_talkative);
+        happen();
         if (i % 1000 == 999 || i + 1 == events)
             printf("%lu events: %016" PRIx64 "\n", i + 1, hash);
     }
