@@ -2,7 +2,7 @@
 use Rattle.std.proofs.Common.{◌≡◌, ◌≢◌, Some, None, sym}
 use Rattle.asked_records.specs.Asked.{question_in}
 use Rattle.relations.specs.Steady.{IsSteady, steady_in}
-use Rattle.device_core.proofs.Steady.{asked_waits, lit, none_asked, not_known, rests, steady_due}
+use Rattle.device_core.proofs.SteadyUnits.{asked_waits, lit, none_asked, not_known, rests, steady_due}
 use Rattle.device_core.proofs.device.Device.steady.Goals as goal
 
 pub returns-then-self-ne0-clause-value : goal.returns-then-self-ne0-clause-value
