@@ -1,21 +1,26 @@
 -- A cyclic frame only puts off what is due.
-use Rattle.std.proofs.Common.{◌≡◌, ◌≤◌, ℕ, Bool, true, false, List, Some, Result, Ok, Err, if◌then◌else◌, refl, subst, sym, arith}
+use Rattle.std.proofs.Common.{◌≡◌, ◌≤◌, ℕ, Bool, true, false, List, Some, Result, Ok, Err, if◌then◌else◌, refl, ap, subst, sym, ◌∙◌, arith}
+use Rattle.std.specs.Prelude.{min}
 use Rattle.pn_values.specs.declared.mac.Mac.{Mac}
-use Rattle.pn_alarms.specs.Leaps.{never}
+use Rattle.pn_alarms.specs.Ends.{DeviceEnd}
+use Rattle.pn_alarms.specs.Leaps.{data_due_in, never}
 use Rattle.cyclic_data.specs.declared.tail.CyclicTail.{CyclicTail}
 use Rattle.cyclic_data.specs.declared.tail.ShortFrame.{ShortFrame}
-use Rattle.cyclic_data.specs.Leaps.{over_in}
+use Rattle.cyclic_data.specs.Leaps.{frame_due_in, over_in}
 use Rattle.cyclic_data.specs.Tail.{cyclic_of}
-use Rattle.cyclic_data.specs.Timing.{Hearing, is_taken}
+use Rattle.cyclic_data.specs.Timing.{Hearing, Sending, is_taken}
 use Rattle.cyclic_data.specs.exchange.Cyclic.{Cyclic}
+use Rattle.cyclic_data.specs.exchange.Leaps.{silent_in}
 use Rattle.cyclic_data.specs.exchange.Received.{behind_read, is_new, is_of_partner, taken_from}
+use Rattle.diagnosis.specs.alarms.Alarms.{Low}
 use Rattle.relations.specs.declared.steady.Steady.{Steady}
 use Rattle.relations.specs.exchange.Flow.{Flow}
 use Rattle.relations.specs.exchange.Received.{behind_frame}
-use Rattle.relations.specs.Leaps.{link_due_in}
+use Rattle.relations.specs.Leaps.{inactive_in, link_due_in, plug_again_in, ready_in}
 use Rattle.relations.specs.Phases.{with_flow}
 use Rattle.relations.specs.RelationState.{RelationState}
 use Rattle.relations.specs.Steady.{IsSteady}
+use Rattle.relations.specs.Timers.{limit_of}
 use Rattle.relations.proofs.SteadyKept.{KeepsCyclic, KeepsFlow, stays, still}
 
 abbrev heard_if : Bool → Hearing → ℕ → Hearing
@@ -52,10 +57,26 @@ flow_received flow source frame_id body = record {
   cyclic = frame_due (is_of_partner flow.cyclic.route source frame_id) flow.cyclic (cyclic_of flow.cyclic.taken.data_length body);
 }
 
+-- What is due of a relation with these parts of its exchange.
+abbrev due_with : RelationState → Sending → ℕ → DeviceEnd → Low → ℕ
+due_with link sending silent alarms low =
+    min (min (min (min (frame_due_in sending) silent) (data_due_in alarms.sender.sending)) (data_due_in low.alarms.sender.sending))
+    (min (plug_again_in link.phase link.plugs) (min (inactive_in link.phase (limit_of link) link.inactive) (ready_in link.phase link.waited)))
+
+put_off : (frame silent later high low own : ℕ) → silent ≤ later → min (min (min (min frame silent) high) low) own ≤ min (min (min (min frame later) high) low) own
+put_off frame silent later high low own off = omega (arith, off)
+
 flow_due : (link : RelationState) (new : Flow) → KeepsFlow link.flow new → link_due_in link ≤ link_due_in (with_flow new link)
 flow_due link new kept =
-    let silent = kept.cyclic.silent in
-    rw (kept.alarms, kept.low, kept.cyclic.sending) (omega (arith, silent))
+    let old = link.flow in
+    let silent = silent_in new.cyclic in
+    let own = min (plug_again_in link.phase link.plugs) (min (inactive_in link.phase (limit_of link) link.inactive) (ready_in link.phase link.waited)) in
+    let same : link_due_in (with_flow new link) ≡ due_with link old.cyclic.sending silent old.alarms old.low =
+    ap (λ (s : Sending). due_with link s silent new.alarms new.low) kept.cyclic.sending
+    ∙ (ap (λ (e : DeviceEnd). due_with link old.cyclic.sending silent e new.low) kept.alarms
+    ∙ ap (due_with link old.cyclic.sending silent old.alarms) kept.low) in
+    subst (λ (n : ℕ). link_due_in link ≤ n) (sym same)
+    (put_off (frame_due_in old.cyclic.sending) (silent_in old.cyclic) silent (data_due_in old.alarms.sender.sending) (data_due_in old.low.alarms.sender.sending) own kept.cyclic.silent)
 
 flow_kept : (flow new : Flow) (source : Mac) (frame_id : ℕ) (body : List ℕ) → new ≡ behind_frame flow source frame_id body → KeepsFlow flow new
 flow_kept flow new source frame_id body is = subst (KeepsFlow flow) (sym is) (flow_received flow source frame_id body)

@@ -1,5 +1,5 @@
 -- Several units of time at once of an exchange whose alarms have nothing to do.
-use Rattle.std.proofs.Common.{◌≡◌, ◌-◌, ◌<◌, ℕ, zero, suc, Bool, refl, sym, ap, ◌∙◌, arith, Option, None, if◌then◌else◌}
+use Rattle.std.proofs.Common.{◌≡◌, ◌-◌, ◌<◌, ℕ, zero, suc, refl, sym, ap, ◌∙◌, arith, Option, None, if◌then◌else◌}
 use Rattle.pn_alarms.specs.declared.repeats.Due.{Due as AlarmDue}
 use Rattle.pn_alarms.specs.declared.repeats.Due.TheVariants.{Nothing}
 use Rattle.pn_alarms.specs.Device.{end_later}
@@ -14,7 +14,7 @@ use Rattle.cyclic_data.specs.exchange.Units.{tick_of as cyclic_tick}
 use Rattle.relations.specs.exchange.Calm.{IsCalm}
 use Rattle.relations.specs.exchange.Flow.{Flow, state_of}
 use Rattle.relations.specs.exchange.Leaps.{BringNothing}
-use Rattle.relations.specs.exchange.Units.{alarm_due, flow_later, tick_of}
+use Rattle.relations.specs.exchange.Units.{flow_later, tick_of}
 use Rattle.relations.proofs.ExchangeLeaps.{brings_nothing, flow_after, with_ends}
 
 -- ---- an end of the alarms of which nothing waits

@@ -1,11 +1,10 @@
 -- What does not change when the next units of a steady exchange bring something.
-use Rattle.std.proofs.Common.{◌≡◌, ◌≤◌, ℕ, Some, None, refl, sym, ap, subst, ◌∙◌, arith}
+use Rattle.std.proofs.Common.{◌≡◌, ◌≤◌, Some, refl, ap, ◌∙◌, arith}
 use Rattle.pn_alarms.specs.Ends.{DeviceEnd}
 use Rattle.cyclic_data.specs.exchange.Cyclic.{Cyclic}
 use Rattle.cyclic_data.specs.exchange.Leaps.{silent_in}
 use Rattle.diagnosis.specs.alarms.Alarms.{Low}
 use Rattle.relations.specs.declared.steady.Steady.{Steady}
-use Rattle.relations.specs.exchange.Calm.{IsCalm}
 use Rattle.relations.specs.exchange.Flow.{Flow}
 use Rattle.relations.specs.Phases.{with_flow}
 use Rattle.relations.specs.RelationState.{RelationState}

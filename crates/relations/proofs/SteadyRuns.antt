@@ -3,12 +3,10 @@ use Rattle.std.proofs.Common.{◌≡◌, ◌+◌, ◌-◌, ◌<◌, ◌≤◌, �
 use Rattle.std.specs.Prelude.{min}
 use Rattle.std.proofs.lemmas.Bool.{false≢true}
 use Rattle.std.proofs.lemmas.Bool.Decides.{nat_tests}
-use Rattle.pn_alarms.specs.declared.abort.Abort.{Abort}
 use Rattle.pn_alarms.specs.Leaps.{after, never, waiting_due_in}
 use Rattle.cyclic_data.specs.Leaps.{frame_due_in}
 use Rattle.cyclic_data.specs.exchange.Leaps.{cyclic_due_in, frame_alone, silent_in}
 use Rattle.cyclic_data.specs.exchange.Units.{Brought}
-use Rattle.expected_places.specs.declared.calls.PlugCall.{PlugCall}
 use Rattle.expected_places.specs.Calls.{PlugQueue, again_in, again_with, counted, counted_by, counted_with, is_again_with}
 use Rattle.expected_places.specs.Calls.{is_again as is_call_again}
 use Rattle.expected_places.specs.Machine.{PlugState}
@@ -19,11 +17,11 @@ use Rattle.relations.specs.exchange.Calm.{IsCalm, is_calm}
 use Rattle.relations.specs.exchange.Flow.{Flow}
 use Rattle.relations.specs.exchange.Leaps.{BringNothing, flow_due_in}
 use Rattle.relations.specs.exchange.Units.{flow_later, repeated_of, tick_of}
-use Rattle.relations.specs.Leaps.{NoPlugDueFor, NothingDueFor, due_within, link_due_in, plug_again_in}
+use Rattle.relations.specs.Leaps.{NothingDueFor, due_within, link_due_in}
 use Rattle.relations.specs.RelationState.{RelationState, link_in}
 use Rattle.relations.specs.Phases.{with_flow}
 use Rattle.relations.specs.Runs.{unit_over, units_over}
-use Rattle.relations.specs.Steady.{IsSteady, Runs, RunsIn, inputs_alone, is_alone, known_if, never_due, steady_in, steady_of, unknown}
+use Rattle.relations.specs.Steady.{IsSteady, Runs, inputs_alone, is_alone, known_if, never_due, steady_in, steady_of, unknown}
 use Rattle.relations.specs.Timers.{Due, due_by, due_of, ending_of, is_timed}
 use Rattle.relations.proofs.Kept.{updated_on}
 use Rattle.relations.proofs.Leaps.{later_after, later_by, nothing_after}

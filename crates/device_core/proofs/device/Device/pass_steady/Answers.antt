@@ -1,8 +1,8 @@
 -- Units with which nothing is due, while only the timers of an exchange run.
-use Rattle.std.proofs.Common.{◌≡◌, ◌<◌, refl}
+use Rattle.std.proofs.Common.{◌<◌, refl}
 use Rattle.relations.specs.Leaps.{NothingDueFor}
 use Rattle.device_core.proofs.Leaping.{none_sends, ticks_live}
-use Rattle.device_core.proofs.Steady.{never_over, steady_due, steady_later}
+use Rattle.device_core.proofs.SteadyUnits.{never_over, steady_due, steady_later}
 use Rattle.device_core.proofs.device.Device.pass_steady.Goals as goal
 
 pub returns-clause-device : goal.returns-clause-device

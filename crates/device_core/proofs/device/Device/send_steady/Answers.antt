@@ -4,7 +4,7 @@ use Rattle.relations.specs.Leaps.{NothingDueFor}
 use Rattle.relations.specs.Runs.{units_over}
 use Rattle.relations.specs.Steady.{inputs_alone}
 use Rattle.relations.specs.Timers.{due_of}
-use Rattle.device_core.proofs.Steady.{one_frame, only_the_last, rests, sends, steady_due, steady_later}
+use Rattle.device_core.proofs.SteadyUnits.{one_frame, only_the_last, rests, sends, steady_due, steady_later}
 use Rattle.device_core.proofs.device.Device.send_steady.Goals as goal
 
 pub returns-clause-device : goal.returns-clause-device

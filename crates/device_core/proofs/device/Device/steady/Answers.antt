@@ -2,7 +2,7 @@
 use Rattle.std.proofs.Common.{◌≡◌, ◌≢◌, Some, None, sym}
 use Rattle.asked_records.specs.Asked.{question_in}
 use Rattle.relations.specs.Steady.{IsSteady, steady_in}
-use Rattle.device_core.proofs.Steady.{asked_waits, lit, none_asked, not_known, rests, steady_due}
+use Rattle.device_core.proofs.SteadyUnits.{asked_waits, lit, none_asked, not_known, rests, steady_due}
 use Rattle.device_core.proofs.device.Device.steady.Goals as goal
 
 pub returns-then-self-ne0-clause-value : goal.returns-then-self-ne0-clause-value
@@ -23,13 +23,13 @@ returns-in-Some-clause-value g c =
     let dark : old.live.rest.lamp ≡ 0 = rw (← c.self.view_is) c.if-self-ne0.false in
     let inside : question_in c.self.inside.asked ≡ Some c.in-Some.field-0.now = rw c.in-Some.is at (sym c.question.ensures.value) in
     let asked : question_in old.live.rest.asked ≡ Some c.in-Some.field-0.now = rw (← c.self.view_is) inside in
-    asked_waits c.unknown.result old.live c.in-Some.field-0.now dark asked c.unknown.ensures
+    asked_waits c.unknown-in-Some.result old.live c.in-Some.field-0.now dark asked c.unknown-in-Some.ensures
 
 pub returns-in-Some-clause-steady : goal.returns-in-Some-clause-steady
-returns-in-Some-clause-steady g c some = absurd (not_known c.unknown.result c.unknown.ensures some)
+returns-in-Some-clause-steady g c some = absurd (not_known c.unknown-in-Some.result c.unknown-in-Some.ensures some)
 
 pub returns-in-Some-clause-due : goal.returns-in-Some-clause-due
-returns-in-Some-clause-due g c some = absurd (not_known c.unknown.result c.unknown.ensures some)
+returns-in-Some-clause-due g c some = absurd (not_known c.unknown-in-Some.result c.unknown-in-Some.ensures some)
 
 pub returns-in-None-clause-value : goal.returns-in-None-clause-value
 returns-in-None-clause-value g c =

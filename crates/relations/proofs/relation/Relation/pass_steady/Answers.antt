@@ -1,5 +1,5 @@
 -- Units that bring nothing, while only the timers of the exchange run, or if there is no relation.
-use Rattle.std.proofs.Common.{◌≡◌, ◌<◌, ◌-◌, Some, None, refl, sym, arith}
+use Rattle.std.proofs.Common.{Some, None, refl, sym, arith}
 use Rattle.relations.specs.RelationState.{RelationState}
 use Rattle.relations.specs.Steady.{IsSteady}
 use Rattle.relations.proofs.Leaps.{begun_kept, none_after, none_due}
@@ -15,7 +15,7 @@ returns-in_default-clause-nothing c = rw (← c.self.view_is, c.in_default.is) (
 pub returns-in_default-clause-due : goal.returns-in_default-clause-due
 returns-in_default-clause-due c =
     let is : IsSteady c.args.steady.now None = rw (← c.self.view_is, c.in_default.is) at c.requires.steady in
-    rw c.in_default.is (sym (inputs_never c.args.steady.now is.runs))
+    rw (← c.self.view_is, c.in_default.is) (sym (inputs_never c.args.steady.now is.runs))
 
 pub returns-in_default-clause-before : goal.returns-in_default-clause-before
 returns-in_default-clause-before c =

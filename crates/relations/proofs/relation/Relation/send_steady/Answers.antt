@@ -1,6 +1,6 @@
 -- Units up to the next one that brings inputs, while only the timers of the exchange run. There is a relation: without one nothing is
 -- ever due.
-use Rattle.std.proofs.Common.{◌≡◌, ◌<◌, ◌-◌, Some, refl, sym, arith}
+use Rattle.std.proofs.Common.{Some, refl, sym, arith}
 use Rattle.relations.specs.declared.phase.Phase.{Phase}
 use Rattle.relations.specs.RelationState.{RelationState, link_in}
 use Rattle.relations.specs.Steady.{IsSteady}

@@ -1,5 +1,5 @@
 -- When the next units bring something.
-use Rattle.std.proofs.Common.{◌≡◌, Bool, true, false, sym, ◌∙◌}
+use Rattle.std.proofs.Common.{◌≡◌, true, false, sym, ◌∙◌}
 use Rattle.relations.specs.RelationState.{RelationState}
 use Rattle.relations.specs.Steady.{is_alone}
 use Rattle.relations.proofs.SteadyRuns.{alone_runs, inputs_never, known_by, never_steady, not_known, steady_due, unknown_by}

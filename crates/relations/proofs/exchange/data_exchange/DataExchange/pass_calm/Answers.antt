@@ -1,7 +1,6 @@
 -- Units that bring nothing to an exchange whose alarms have nothing to do.
 use Rattle.std.proofs.Common.{refl}
 use Rattle.cyclic_data.specs.exchange.Leaps.{IsQuietFor}
-use Rattle.relations.specs.exchange.Calm.{IsCalm}
 use Rattle.relations.proofs.ExchangeCalm.{calm_after, calm_nothing}
 use Rattle.relations.proofs.exchange.data_exchange.DataExchange.pass_calm.Goals as goal
 

@@ -1,11 +1,10 @@
 -- Units up to the next one with which a frame of inputs is due, at an exchange whose alarms have nothing to do.
-use Rattle.std.proofs.Common.{◌≡◌, ◌-◌, ◌<◌, refl, arith}
+use Rattle.std.proofs.Common.{◌≡◌, ◌-◌, refl}
 use Rattle.pn_alarms.specs.declared.repeats.Due.TheVariants.{Nothing}
 use Rattle.pn_alarms.specs.Leaps.{after}
 use Rattle.cyclic_data.specs.exchange.Leaps.{IsQuietFor, frame_alone}
 use Rattle.cyclic_data.specs.exchange.Units.{cyclic_later}
 use Rattle.cyclic_data.specs.exchange.Units.{tick_of as cyclic_tick}
-use Rattle.relations.specs.exchange.Calm.{IsCalm}
 use Rattle.relations.proofs.ExchangeCalm.{calm_last, calm_nothing, calm_sent_by}
 use Rattle.relations.proofs.exchange.data_exchange.DataExchange.send_calm.Goals as goal
 
