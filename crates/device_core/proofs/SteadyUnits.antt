@@ -1,5 +1,6 @@
 -- Units of time while only the timers of an exchange run.
-use Rattle.std.proofs.Common.{◌≡◌, ◌≢◌, ◌-◌, ◌<◌, ◌≤◌, ◌==◌, ◌++◌, ℕ, zero, suc, true, false, List, [], length, map, refl, sym, ap, ◌∙◌, arith, Option, Some, None, is_some, option_map, if◌then◌else◌}
+use Rattle.std.proofs.Common.{◌≡◌, ◌≢◌, ◌+◌, ◌-◌, ◌%◌, ◌<◌, ◌≤◌, ◌==◌, ◌++◌, ℕ, zero, suc, true, false, List, [], length, map, refl, sym, ap, ◌∙◌, arith, Option, Some, None, is_some, option_map, if◌then◌else◌}
+use Rattle.std.specs.Prelude.{min}
 use Rattle.std.proofs.lemmas.Bool.{false≢true, ne_eqb}
 use Rattle.std.proofs.lemmas.List.{append-nil}
 use Rattle.pn_alarms.specs.Leaps.{after, never}
@@ -17,8 +18,8 @@ use Rattle.device_frames.specs.declared.event.Event.TheVariants.{Tick}
 use Rattle.device_frames.specs.Relation.{due_frames, inputs_of}
 use Rattle.device_frames.specs.Sent.{Sent, bytes_of}
 use Rattle.device_core.specs.Asking.{ended_by, late_in, late_sent, left_asked}
-use Rattle.device_core.specs.Handled.{unit_sent}
-use Rattle.device_core.specs.Leaps.{OnlyTheLastSends, lamp_off_in, live_due_in, ticks_of}
+use Rattle.device_core.specs.Handled.{unit_rest, unit_sent}
+use Rattle.device_core.specs.Leaps.{Leapt, OnlyTheLastSends, lamp_off_in, live_due_in, ticks_of}
 use Rattle.device_core.specs.Machine.{step_of}
 use Rattle.device_core.specs.State.{Live, Station, counter_of, units_after}
 use Rattle.device_core.specs.Steady.{IsSteadyAt, steady_at, steady_beside}

@@ -1,5 +1,5 @@
 -- Units with which nothing is due, while only the timers of an exchange run.
-use Rattle.std.proofs.Common.{◌<◌, refl}
+use Rattle.std.proofs.Common.{◌≡◌, ◌<◌, refl}
 use Rattle.relations.specs.Leaps.{NothingDueFor}
 use Rattle.device_core.proofs.Leaping.{none_sends, ticks_live}
 use Rattle.device_core.proofs.SteadyUnits.{never_over, steady_due, steady_later}
