@@ -4,7 +4,8 @@ use Rattle.controller_core.specs.declared.stored.event.Event.{Event}
 use Rattle.controller_core.specs.stored.State.{Controlling}
 use Rattle.controller_core.specs.Machine.{step_of}
 use Rattle.end_laws.specs.turns.Runs.{behind_all}
-use Rattle.exchange_law.specs.Told.{Told}
+use Rattle.exchange_law.specs.declared.controller.Happening.{Happening}
+use Rattle.exchange_law.specs.Told.{AreOf, IsOf, Told}
 
 -- What is told of one step.
 abbrev pub told_by : Controlling → Event → Told
@@ -20,7 +21,16 @@ pub record Turns (old : Controlling) (event : Event) (before now : List Told) (n
   pub told : now ≡ before ++ told_by old event ∷ []
   pub becomes : new ≡ (step_of old event).controller
 
--- Several steps.
-pub record Runs (old : Controlling) (events : List Event) (before now : List Told) (new : Controlling) : Type 0 where
+-- The steps of one thing that happens.
+pub record Happens (old : Controlling) (one : Happening) (before now : List Told) (new : Controlling) : Type 0 where
+  pub events : List Event
+  pub are : IsOf one events
+  pub told : now ≡ before ++ told_of events old
+  pub becomes : new ≡ behind_all events old
+
+-- The steps of all that happens.
+pub record Runs (old : Controlling) (happenings : List Happening) (before now : List Told) (new : Controlling) : Type 0 where
+  pub events : List Event
+  pub are : AreOf happenings events
   pub told : now ≡ before ++ told_of events old
   pub becomes : new ≡ behind_all events old

@@ -6,4 +6,4 @@
 
 mod controller;
 
-pub use controller::{Witness, controller_exchanges};
+pub use controller::{Happening, Witness, controller_exchanges};

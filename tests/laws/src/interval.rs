@@ -5,7 +5,7 @@ use crate::plant::{INTERVAL, PLAN, is_of_device, number, payload, station};
 use configurator::plan_from_json;
 use controller_core::{Controller, Event, State};
 use device_core::Event as AtDevice;
-use exchange_law::{Witness, controller_exchanges};
+use exchange_law::{Happening, Witness, controller_exchanges};
 use frame_codec::Outbox;
 use rattle_std::alloc::Global;
 use test_stations::{Station, frame, octets};
@@ -62,6 +62,19 @@ impl Witness for Diary {
         };
         self.0.push(told(came, frames, state));
     }
+
+    fn pass(&mut self, units: u32, state: State) {
+        for _ in 0..units {
+            self.0.push(told(Came::Unit, &Outbox::new(), state));
+        }
+    }
+}
+
+/// What a witness learns of a controller to which all this happens.
+fn learned(happenings: &[Happening]) -> Vec<Told> {
+    let mut diary = Diary(Vec::new());
+    controller_exchanges(&mut fresh(), happenings, &mut diary);
+    diary.0
 }
 
 /// The first entry at which the law does not hold.
@@ -173,10 +186,26 @@ fn it_holds_of_a_run_that_a_witness_learns() {
     let entries = run();
     assert_eq!(broken(&entries), None);
     assert_eq!(sending(&entries).len(), 9);
-    let events: Vec<Event> = entries.iter().map(|entry| event(&entry.came)).collect();
-    let mut diary = Diary(Vec::new());
-    controller_exchanges(&mut fresh(), &events, &mut diary);
-    assert_eq!(diary.0, entries);
+    let comes: Vec<Happening> = entries.iter().map(|entry| Happening::Comes(event(&entry.came))).collect();
+    assert_eq!(learned(&comes), entries);
+}
+
+#[test]
+fn units_that_pass_at_once() {
+    // Each interval of the run as one leap: units that follow one another with nothing between them.
+    let entries = run();
+    let mut leaps = Vec::new();
+    for (place, entry) in entries.iter().enumerate() {
+        match (&entry.came, leaps.last_mut()) {
+            (Came::Unit, Some(Happening::Leaps(units))) if entries[place - 1].outputs.is_empty() => *units += 1,
+            (Came::Unit, _) => leaps.push(Happening::Leaps(1)),
+            (came, _) => leaps.push(Happening::Comes(event(came))),
+        }
+    }
+    assert!(leaps.len() < entries.len() / 4);
+    assert_eq!(learned(&leaps), entries);
+    // No more units pass than until the next one that sends.
+    assert_eq!(learned(&[Happening::Leaps(100_000)]).len(), 32_000);
 }
 
 #[test]
