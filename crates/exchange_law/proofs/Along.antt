@@ -58,7 +58,7 @@ pub events_told : (events : List Event) (old : Controlling) → map (λ (one : T
 events_told [] old = refl
 events_told (event ∷ events) old = ap (λ (l : List Event). event ∷ l) (events_told events (step_of old event).controller)
 
--- What is told of a step.
+-- What a witness learns of a step.
 abbrev told_at : Setup → Live → Event → Told
 told_at setup live event = record { event = event; sent = map (bytes_of setup) (turn_of setup live event).sent; state = (turn_of setup live event).live.phase }
 

@@ -65,7 +65,7 @@ module _ (old : Controlling) where
       ap (λ (l : List Event). behind_all l old) (same_again units Tick)
       ∙ (behind_both (ticks units) (Tick ∷ []) old ∙ ap (λ (c : Controlling). (step_of c Tick).controller) (behind_ticks units))
 
-  -- What is told of the unit after some.
+  -- What a witness learns of the unit after some.
   abbrev last_told : ℕ → Told
   last_told units = told_by (ticks_of units old).controller Tick
 

@@ -75,7 +75,7 @@ pub record Keeps (live : Live) (stands : Bool) (cyclic : CyclicEnd) : Type 0 whe
   pub sending : cyclic.sending ≡ live.cyclic.sending
   pub sent_id : cyclic.route.sent_id ≡ live.cyclic.route.sent_id
 
--- There is none, it begins, or it stays.
+-- There is no relation, it begins, or it stays.
 abbrev pub Goes : Setup → Live → Came → Bool → CyclicEnd → Type 0
 Goes setup live came stands cyclic = (stands ≡ false) ⊎ (Starts setup live.stands came stands cyclic ⊎ Keeps live stands cyclic)
 
