@@ -53,7 +53,7 @@ comes_so old event before now new turns = record { events = event ∷ []; are = 
 
 same_again : {A : Type 0} (n : ℕ) (x : A) → replicate (suc n) x ≡ replicate n x ++ x ∷ []
 same_again zero x = refl
-same_again (suc n) x = ap (λ (l : _). x ∷ l) (same_again n x)
+same_again {A = A} (suc n) x = ap (λ (l : List A). x ∷ l) (same_again n x)
 
 module _ (old : Controlling) where
   abbrev ticks : ℕ → List Event
@@ -123,3 +123,15 @@ module _ (old : Controlling) where
 
   pub no_leap : (asked : ℕ) (before : List Told) → Happens old (Leaps asked) before before old
   no_leap asked before = record { events = []; are = (0, omega arith, refl); told = sym (append-nil before); becomes = refl }
+
+-- What a witness learned of a leap, by what it was told one after another.
+pub leap_learned : (before passed now : List Told) (n : ℕ) (state shown later last : State) (frames sent : List (List ℕ)) → now ≡ passed ++ record { event = Tick; sent = sent; state = last } ∷ []
+    → passed ≡ before ++ quiet n shown → shown ≡ state → sent ≡ frames → last ≡ later
+    → now ≡ before ++ (quiet n state ++ record { event = Tick; sent = frames; state = later } ∷ [])
+leap_learned before passed now n state shown later last frames sent one two three four five =
+    one
+    ∙ (ap (λ (l : List Told). l ++ record { event = Tick; sent = sent; state = last } ∷ []) two
+    ∙ (append_assoc before (quiet n shown) (record { event = Tick; sent = sent; state = last } ∷ [])
+    ∙ (ap (λ (s : State). before ++ (quiet n s ++ record { event = Tick; sent = sent; state = last } ∷ [])) three
+    ∙ (ap (λ (f : List (List ℕ)). before ++ (quiet n state ++ record { event = Tick; sent = f; state = last } ∷ [])) four
+    ∙ ap (λ (s : State). before ++ (quiet n state ++ record { event = Tick; sent = frames; state = s } ∷ [])) five))))

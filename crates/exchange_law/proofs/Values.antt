@@ -156,14 +156,15 @@ senders_for (sub ∷ subs) = more_by (input_of sub.io_data.input sub.io_data.out
 
 filter_is : (slot : ℕ) (parts : List RealSubmodule) → length (filter is_sender parts) ≡ senders_for (data_in_slot slot parts)
 filter_is slot [] = refl
-filter_is slot (part ∷ parts) = by_tests (part.input == 0) (part.output == 0)
+filter_is slot (part ∷ parts) = by_tests (part.input == 0) (part.output == 0) (filter_is slot parts)
   where
-    by_tests : (a b : Bool) → length (cond (not a || b) (part ∷ filter is_sender parts) (filter is_sender parts))
+    by_tests : (a b : Bool) → length (filter is_sender parts) ≡ senders_for (data_in_slot slot parts)
+        → length (cond (not a || b) (part ∷ filter is_sender parts) (filter is_sender parts))
         ≡ more_by (input_of (cond a None (Some part.input)) (cond b None (Some part.output))) (senders_for (data_in_slot slot parts))
-    by_tests true true = ap suc (filter_is slot parts)
-    by_tests true false = filter_is slot parts
-    by_tests false true = ap suc (filter_is slot parts)
-    by_tests false false = ap suc (filter_is slot parts)
+    by_tests true true rest = ap suc rest
+    by_tests true false rest = rest
+    by_tests false true rest = ap suc rest
+    by_tests false false rest = ap suc rest
 
 more_plus : (size : Option ℕ) (n m : ℕ) → more_by size n + m ≡ more_by size (n + m)
 more_plus (Some size) n m = omega arith
@@ -193,21 +194,23 @@ room_is : (subs : List ExpectedData) → sum_of direction.Output Data subs ≡ r
 room_is [] = refl
 room_is (sub ∷ subs) =
     sum_by-cons (octets_in direction.Output Data) sub subs
-    ∙ by_size sub.io_data.output
+    ∙ by_size sub.io_data.output (room_is subs)
   where
-    by_size : (size : Option ℕ) → unwrap_or (added size) 0 + sum_by (octets_in direction.Output Data) subs ≡ room_of (output_if sub.slot sub.subslot size ++ outputs_for subs)
-    by_size None = room_is subs
-    by_size (Some size) = ap (λ (n : ℕ). size + 1 + n) (room_is subs)
+    by_size : (size : Option ℕ) → sum_by (octets_in direction.Output Data) subs ≡ room_of (outputs_for subs)
+        → unwrap_or (added size) 0 + sum_by (octets_in direction.Output Data) subs ≡ room_of (output_if sub.slot sub.subslot size ++ outputs_for subs)
+    by_size None rest = omega (arith, rest)
+    by_size (Some size) rest = ap (λ (n : ℕ). size + 1 + n) rest
 
 iocs_are : (subs : List ExpectedData) → sum_of direction.Output Iocs subs ≡ senders_for subs
 iocs_are [] = refl
 iocs_are (sub ∷ subs) =
     sum_by-cons (octets_in direction.Output Iocs) sub subs
-    ∙ by_input (input_of sub.io_data.input sub.io_data.output)
+    ∙ by_input (input_of sub.io_data.input sub.io_data.output) (iocs_are subs)
   where
-    by_input : (size : Option ℕ) → unwrap_or (option_map (λ n. 1) size) 0 + sum_by (octets_in direction.Output Iocs) subs ≡ more_by size (senders_for subs)
-    by_input None = iocs_are subs
-    by_input (Some size) = let rest = iocs_are subs in omega (arith, rest)
+    by_input : (size : Option ℕ) → sum_by (octets_in direction.Output Iocs) subs ≡ senders_for subs
+        → unwrap_or (option_map (λ n. 1) size) 0 + sum_by (octets_in direction.Output Iocs) subs ≡ more_by size (senders_for subs)
+    by_input None rest = omega (arith, rest)
+    by_input (Some size) rest = omega (arith, rest)
 
 pub room_of_plan : (modules : List RealModule) → sum_of direction.Output Data (data_of modules) ≡ room_of (outputs_in modules)
 room_of_plan modules = room_is (data_of modules) ∙ ap (λ (l : List Output). room_of l) (sym (outputs_are modules))
