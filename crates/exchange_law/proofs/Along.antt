@@ -1,5 +1,5 @@
 -- A controller over any events: at each entry it is on time, and its frames carry what the application gave last.
-use Rattle.std.proofs.Common.{◌≡◌, ◌⊎◌, inl, inr, ◌+◌, ◌*◌, ◌%◌, ◌<◌, ◌≤◌, ◌==◌, ◌&&◌, ◌++◌, ℕ, Bool, true, false, List, [], ◌∷◌, length, map, Option, Some, None, refl, sym, ap, subst, ◌∙◌, arith}
+use Rattle.std.proofs.Common.{◌≡◌, ◌⊎◌, inl, inr, ◌+◌, ◌*◌, ◌%◌, ◌<◌, ◌≤◌, ◌&&◌, ◌++◌, ℕ, Bool, true, false, List, [], ◌∷◌, length, map, Option, Some, refl, sym, ap, subst, ◌∙◌, arith}
 use Rattle.std.specs.Prelude.{if◌then◌else◌}
 use Rattle.std.specs.List.{AllByRecursion}
 use Rattle.std.proofs.Math.Nat.{max-le, mod-lt}
@@ -8,35 +8,32 @@ use Rattle.rpc_core.specs.Response.{Answered as Response}
 use Rattle.frame_codec.specs.Frame.{layers}
 use Rattle.frame_codec.specs.Sendable.{IsMac}
 use Rattle.cyclic_data.specs.Image.{Shown as Image, octets_of}
-use Rattle.cyclic_data.specs.Timing.{Sending, is_due as is_clock_due, unit_later}
-use Rattle.cyclic_data.specs.exchange.Cyclic.{Cyclic as CyclicEnd}
-use Rattle.plans.specs.declared.parts.Times.{Times}
+use Rattle.cyclic_data.specs.Timing.{Sending, is_due as is_clock_due}
 use Rattle.plans.specs.Plan.{IsPlan}
 use Rattle.controller_messages.specs.declared.setup.Setup.{Setup}
 use Rattle.controller_messages.specs.Heard.{Heard, Responds, heard_of}
 use Rattle.controller_messages.specs.Sent.{Sent, Cycles, bytes_of}
 use Rattle.controller_core.specs.declared.stored.event.Event.{Event}
 use Rattle.controller_core.specs.declared.stored.event.Event.TheVariants.{Frame, Tick, Give, Status, Read, Write, Stop}
-use Rattle.controller_core.specs.declared.stored.state.State.{State}
 use Rattle.controller_core.specs.stored.State.{Controlling, Live}
-use Rattle.controller_core.specs.Machine.{Turn, first, step_of, ticked, turn_of, where_due}
+use Rattle.controller_core.specs.Machine.{Turn, first, step_of, turn_of, where_due}
 use Rattle.field_words.specs.Cyclic.{counter_in, data_in, is_cyclic_id}
 use Rattle.network_world.specs.declared.moves.Move.{Move}
 use Rattle.end_laws.specs.controller.Small.{IsSteady}
-use Rattle.end_laws.specs.turns.Turns.{Came, Hears, IsTurn, Passes, came_by}
+use Rattle.end_laws.specs.turns.Turns.{Hears, Passes, came_by}
 use Rattle.end_laws.proofs.HearingGiven.{DataIsRead}
 use Rattle.both_ends.specs.exchange.Shown.{zeros_for}
 use Rattle.both_ends.specs.exchange.Given.{image_given}
-use Rattle.both_ends.proofs.ExchangeOutputsBrings.{IsAddressed, IsNow}
+use Rattle.both_ends.proofs.ExchangeOutputsBrings.{IsAddressed}
 use Rattle.both_ends.proofs.ExchangeOutputsMoves.{ArePlaced, Sets, first_image, given_more, sets_given, sets_of, shown_with}
 use Rattle.both_ends.proofs.ExchangeOutputsSix.{six_event}
 use Rattle.both_ends.proofs.ExchangeOutputsTurns.{IsKept, IsSaid, KindsSo, Tells, shown_behind, turn_tells}
 use Rattle.exchange_law.specs.Told.{AllAlong, Told}
-use Rattle.exchange_law.specs.Interval.{BeginsWell, ChoosesCyclic, ComesWell, IsOnTime, completes, cyclic_in, interval_in, is_cyclic_frame, is_due, is_related, related_for, related_then, units_then}
-use Rattle.exchange_law.specs.Outputs.{CarriesOutputs, CarriesWhatIsGiven, HasOutputs, AreGood, outputs_in, room_of, senders_in, size_of, tick_with, units_in}
+use Rattle.exchange_law.specs.Interval.{BeginsWell, ChoosesCyclic, ComesWell, IsOnTime, completes, cyclic_in, interval_in, is_due, is_related, related_for, related_then, units_then}
+use Rattle.exchange_law.specs.Outputs.{CarriesOutputs, CarriesWhatIsGiven, HasOutputs, AreGood, outputs_in, room_of, senders_in, size_of, units_in}
 use Rattle.exchange_law.specs.Run.{told_by, told_of}
-use Rattle.exchange_law.proofs.Frames.{IsOther, counter_is, data_is, is_one, last_in, none_in}
-use Rattle.exchange_law.proofs.Turns.{Goes, IsOver, IsQuiet, IsUnit, Keeps, Starts, turn_quiet, unit_passes}
+use Rattle.exchange_law.proofs.Frames.{counter_is, data_is, is_one, last_in, none_in}
+use Rattle.exchange_law.proofs.Turns.{Goes, IsOver, IsQuiet, IsUnit, turn_quiet, unit_passes}
 use Rattle.exchange_law.proofs.Units.{HasCounted, HasRun, counted_more, counted_none, due_where, no_tick, no_unit, none_run, not_complete, related_more, some_run, then_none, then_some, units_after, units_more}
 use Rattle.exchange_law.proofs.Values.{front_all, move_of, moves_in, moves_more, outputs_there, senders_there, size_is}
 

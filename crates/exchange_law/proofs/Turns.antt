@@ -1,12 +1,10 @@
 -- Each turn of a controller, as far as the interval of its outputs is concerned: its relation begins, ends, or stays; a unit is counted; and
 -- frames of outputs are sent with units of the relation alone.
-use Rattle.std.proofs.Common.{◌≡◌, ◌⊎◌, inl, inr, ◌+◌, ◌%◌, ◌++◌, ◌&&◌, ℕ, Bool, true, false, cond, List, [], ◌∷◌, Option, Some, None, Result, Ok, Err, refl, sym, ap, subst, ◌∙◌, append_assoc}
+use Rattle.std.proofs.Common.{◌≡◌, ◌⊎◌, inl, inr, ◌+◌, ◌%◌, ◌++◌, ℕ, Bool, true, false, cond, List, [], ◌∷◌, Option, Some, None, Result, Ok, Err, refl, sym, ap, subst, ◌∙◌, append_assoc}
 use Rattle.std.specs.Prelude.{if◌then◌else◌, is_some}
 use Rattle.std.specs.List.{AllByRecursion}
 use Rattle.pn_values.specs.declared.mac.Mac.{Mac}
-use Rattle.rpc_core.specs.Call.{Asked as Call}
 use Rattle.rpc_core.specs.Response.{Answered as Response}
-use Rattle.frame_codec.specs.declared.udp.Caller.{Caller}
 use Rattle.record_blocks.specs.declared.alarm_ack.AlarmAck.{AlarmAck}
 use Rattle.record_blocks.specs.declared.alarm_notification.AlarmNotification.{AlarmNotification}
 use Rattle.pn_alarms.specs.declared.abort.Abort.{Abort}
@@ -21,14 +19,14 @@ use Rattle.pn_alarms.specs.Sending.{is_again as is_repeated}
 use Rattle.diagnosis.specs.declared.reports.priority.Priority.{Priority}
 use Rattle.diagnosis.specs.declared.reports.priority.Priority.TheVariants.{High, Low}
 use Rattle.diagnosis.specs.declared.reports.report.Report.{Report}
-use Rattle.cyclic_data.specs.Timing.{Sending, is_due, unit_later}
+use Rattle.cyclic_data.specs.Timing.{is_due, unit_later}
 use Rattle.cyclic_data.specs.declared.exchange.route.Route.{Route}
 use Rattle.cyclic_data.specs.declared.tail.CyclicTail.{CyclicTail}
 use Rattle.cyclic_data.specs.declared.tail.ShortFrame.{ShortFrame}
 use Rattle.cyclic_data.specs.Tail.{cyclic_of}
 use Rattle.cyclic_data.specs.exchange.Cyclic.{Cyclic as CyclicEnd}
 use Rattle.cyclic_data.specs.exchange.Received.{behind_frame, behind_read, is_new, is_of_partner, taken_from}
-use Rattle.cyclic_data.specs.exchange.Units.{Brought, ending_of, tick_by}
+use Rattle.cyclic_data.specs.exchange.Units.{ending_of, tick_by}
 use Rattle.connects.specs.answers.Connect.{Chosen}
 use Rattle.plans.specs.declared.parts.Parts.{Parts}
 use Rattle.controller_messages.specs.declared.plug_request.PlugRequest.{PlugRequest}
@@ -40,17 +38,16 @@ use Rattle.controller_messages.specs.Heard.{Responds}
 use Rattle.controller_messages.specs.PlugRequests.{plug_answer}
 use Rattle.controller_messages.specs.Requests.{writing_from}
 use Rattle.controller_messages.specs.Sent.{Sent, Agrees, Cycles}
-use Rattle.controller_core.specs.declared.stored.state.Cause.{Cause}
 use Rattle.controller_core.specs.declared.stored.state.Cause.TheVariants.{NoProgress}
 use Rattle.controller_core.specs.declared.stored.state.State.{State}
 use Rattle.controller_core.specs.declared.stored.state.State.TheVariants.{Looking, Addressing, Connecting, Writing, Ending, Waiting, Exchanging, Ended}
-use Rattle.controller_core.specs.start_up.Requests.{behind_write, end_after, next_sequence, write_after}
+use Rattle.controller_core.specs.start_up.Requests.{behind_write, end_after, write_after}
 use Rattle.controller_core.specs.stored.Alarms.{ack_of, kept_alarm}
 use Rattle.controller_core.specs.stored.Opening.{sending_of}
 use Rattle.controller_core.specs.stored.State.{Live, phase_for}
-use Rattle.controller_core.specs.Machine.{Turn, accesses_by, accesses_of, acking, acks_in, acks_of, after_turn, asks_next, behind_data, brought, can_begin, confirming, diagnosing, due_frames, end_of, flow_later, flowed, gone_on, is_again, is_spent, keeping, later, outputs_of, over, pending_by, pending_of, plug_readied, plugs_by, plugs_of, quit, requests_of, standing, stays, taken, ticked, where_due, with_end}
+use Rattle.controller_core.specs.Machine.{Turn, accesses_by, accesses_of, acking, acks_in, acks_of, after_turn, asks_next, behind_data, brought, can_begin, confirming, diagnosing, end_of, flow_later, flowed, gone_on, is_again, is_spent, keeping, later, outputs_of, pending_by, pending_of, plug_readied, plugs_by, plugs_of, quit, requests_of, stays, taken, ticked, where_due, with_end}
 use Rattle.end_laws.specs.controller.Small.{IsInStep, IsSteady}
-use Rattle.end_laws.specs.turns.Beside.{IsBeside, IsFollowed, MayFollow, flow_begun}
+use Rattle.end_laws.specs.turns.Beside.{IsBeside, MayFollow, flow_begun}
 use Rattle.end_laws.specs.turns.Turns.{Came, Hears, Passes, IsKind, IsTurn, Kind, Rests, Connects, Addresses, Ends, Releases, Relates, Writes, Skips, Tries, Waits, Forgets, Begins, Repeats, Follows, Takes, IsAcked, Asks, IsReplied, IsPlugAnswered, IsPlugReadied, Gives, GivesStatus, Flows, Breaks, Idles, chosen_in, turn_by, units_behind}
 use Rattle.end_laws.proofs.TurnsBeside.{begins, begun_beside, flows, follows, gone_is, unit_begun}
 use Rattle.exchange_law.specs.Interval.{is_related}

@@ -1,10 +1,10 @@
 -- The outputs in the data of a frame: what the application said, as the places of a plan have it, and as the words of the law do.
-use Rattle.std.proofs.Common.{◌≡◌, ◌+◌, ◌-◌, ◌<◌, ◌≤◌, ◌==◌, ◌&&◌, ◌||◌, ◌++◌, ℕ, zero, suc, Bool, true, false, not, cond, List, [], ◌∷◌, length, map, take, drop, get_or, replicate, flat_map, Option, Some, None, option_map, if◌then◌else◌, refl, sym, ap, subst, ◌∙◌, append_assoc, arith}
+use Rattle.std.proofs.Common.{◌≡◌, ◌+◌, ◌-◌, ◌==◌, ◌&&◌, ◌||◌, ◌++◌, ℕ, suc, Bool, true, false, not, cond, List, [], ◌∷◌, length, map, take, drop, get_or, replicate, flat_map, Option, Some, None, option_map, if◌then◌else◌, refl, sym, ap, subst, ◌∙◌, append_assoc, arith}
 use Rattle.std.specs.Prelude.{filter, fold, is_some, max, sum_by, unwrap_or}
 use Rattle.std.specs.List.{AllByRecursion}
 use Rattle.std.proofs.lemmas.Bool.Decides.{nat_tests}
 use Rattle.std.proofs.lemmas.List.{length-append}
-use Rattle.std.proofs.lemmas.List.Sums.{fold-append, sum_by-cons}
+use Rattle.std.proofs.lemmas.List.Sums.{sum_by-cons}
 use Rattle.pn_values.specs.declared.real.RealModule.{RealModule}
 use Rattle.pn_values.specs.declared.real.RealSubmodule.{RealSubmodule}
 use Rattle.connect_blocks.specs.declared.iocr.IocrType.TheVariants as direction
@@ -24,9 +24,8 @@ use Rattle.both_ends.specs.exchange.Shown.{zeros_for}
 use Rattle.both_ends.specs.exchange.Given.{given_by, image_given, last_given, last_rated, output_at, places_for, rated_by}
 use Rattle.both_ends.proofs.ExchangeOutputsMoves.{ArePlaced, image_shown, values_of}
 use Rattle.both_ends.proofs.ExchangeOutputsValues.{cell_with}
-use Rattle.field_words.specs.Octets.{octet_at, part_at}
 use Rattle.exchange_law.specs.Told.{Told}
-use Rattle.exchange_law.specs.Outputs.{AreGood, HasOutput, HasOutputs, Output, given_in, given_with, is_sender, outputs_in, part_outputs, room_of, said_in, said_with, senders_in, size_of}
+use Rattle.exchange_law.specs.Outputs.{AreGood, HasOutput, HasOutputs, Output, given_in, given_with, is_sender, outputs_in, part_outputs, room_of, said_with, senders_in, size_of}
 
 -- ---- what the application said
 

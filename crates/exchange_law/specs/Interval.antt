@@ -1,5 +1,5 @@
 -- When a controller sends cyclic frames: with each unit of its relation that completes an interval, and at no other event.
-use Rattle.std.specs.Prelude.{◌≡◌, ◌+◌, ◌*◌, ◌%◌, ◌==◌, ◌&&◌, ℕ, Bool, true, false, List, [], ◌∷◌, filter, fold, length, Option, Some, None, if◌then◌else◌}
+use Rattle.std.specs.Prelude.{◌≡◌, ◌+◌, ◌*◌, ◌%◌, ◌==◌, ◌&&◌, ℕ, Bool, true, false, List, filter, fold, length, Option, Some, None, if◌then◌else◌}
 use Rattle.connects.specs.answers.Connect.{Chosen}
 use Rattle.plans.specs.declared.parts.Controller.{Controller}
 use Rattle.plans.specs.declared.parts.Times.{Times}

@@ -1,5 +1,5 @@
 -- The run of a controller that was just started.
-use Rattle.std.proofs.Common.{◌≡◌, List, [], ap, sym, subst, ◌∙◌}
+use Rattle.std.proofs.Common.{List, [], ap, sym, subst, ◌∙◌}
 use Rattle.connect_blocks.specs.declared.iocr.IocrType.TheVariants.{Output}
 use Rattle.frame_codec.specs.Sendable.{IsMac}
 use Rattle.plans.specs.declared.parts.Controller.{Controller}

@@ -1,7 +1,7 @@
 -- Several units at once.
-use Rattle.std.proofs.Common.{◌≡◌, ◌<◌, ◌≤◌, ap, ◌∙◌, arith}
+use Rattle.std.proofs.Common.{ap, ◌∙◌, arith}
 use Rattle.controller_core.specs.stored.State.{Controlling}
-use Rattle.exchange_law.proofs.Runs.{leap_learned, leaps_so, no_leap}
+use Rattle.exchange_law.proofs.Runs.{leap_learned, leaps_so}
 use Rattle.exchange_law.proofs.controller.leap.Goals as goal
 
 pub returns : goal.returns

@@ -2,7 +2,6 @@
 use Rattle.std.proofs.Common.{◌++◌, [], ◌∷◌, ap, ◌∙◌}
 use Rattle.controller_core.specs.Machine.{step_of}
 use Rattle.controller_core.specs.stored.State.{Controlling}
-use Rattle.exchange_law.specs.Told.{Told}
 use Rattle.exchange_law.proofs.controller.turn.Goals as goal
 
 pub returns : goal.returns
