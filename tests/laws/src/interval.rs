@@ -250,9 +250,11 @@ fn a_frame_without_a_unit_or_without_a_relation() {
 
 #[test]
 fn another_value_status_or_counter() {
-    let places = sending(&run());
-    let place = *places.last().expect("a frame");
-    let (value, before) = (OUTPUTS[1].1, run()[places[places.len() - 2]].outputs[0].clone());
+    // The first frame with the last value for slot 3, and the frame before it.
+    let (value, entries) = (OUTPUTS[1].1, run());
+    let places = sending(&entries);
+    let at = places.iter().position(|place| entries[*place].outputs[0][value..value + 2] == [5, 6]).expect("a frame");
+    let (place, before) = (places[at], entries[places[at - 1]].outputs[0].clone());
     let changes: [&dyn Fn(&mut Vec<u8>); 7] = [
         &|frame| frame[value..value + 2].copy_from_slice(&before[value..value + 2]),
         &|frame| frame[value..value + 2].fill(0),
