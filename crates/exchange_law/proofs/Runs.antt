@@ -124,7 +124,7 @@ module _ (old : Controlling) where
   pub no_leap : (asked : ℕ) (before : List Told) → Happens old (Leaps asked) before before old
   no_leap asked before = record { events = []; are = (0, omega arith, refl); told = sym (append-nil before); becomes = refl }
 
--- What a witness learned of a leap, by what it was told one after another.
+-- What a witness learned of a leap, by what it learned of its units.
 pub leap_learned : (before passed now : List Told) (n : ℕ) (state shown later last : State) (frames sent : List (List ℕ)) → now ≡ passed ++ record { event = Tick; sent = sent; state = last } ∷ []
     → passed ≡ before ++ quiet n shown → shown ≡ state → sent ≡ frames → last ≡ later
     → now ≡ before ++ (quiet n state ++ record { event = Tick; sent = frames; state = later } ∷ [])
