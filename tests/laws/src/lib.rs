@@ -7,6 +7,7 @@
 mod cyclic;
 mod exchange;
 mod inputs;
+mod interval;
 mod owed;
 mod plant;
 mod refused;
