@@ -4,3 +4,10 @@ pub mod ReadingAnswers
 pub mod ReadingDiagnosis
 pub mod ReadingRelation
 pub mod ReadingPort
+pub mod ReadingBlocks
+pub mod ReadingConnect
+pub mod ReadingPlanned
+pub mod ReadingModules
+pub mod ReadingAnswer
+pub mod ReadingAlarm
+pub mod ReadingRecords

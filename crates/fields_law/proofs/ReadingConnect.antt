@@ -20,17 +20,19 @@ use Rattle.connect_blocks.specs.declared.iocr.RtClass.{RtClass}
 use Rattle.connect_blocks.specs.declared.iocr.RtClass.TheVariants.{Class1, Class2}
 use Rattle.connect_blocks.specs.AlarmCr.{alarm_cr_block_req}
 use Rattle.connect_blocks.specs.ArBlock.{ar_block_req, ar_uuid, initiator_mac, station_name}
-use Rattle.connect_blocks.specs.Expected as of_expected
-use Rattle.connect_blocks.specs.Expected.{description, description_kind, expected, expected_module, expected_modules, expected_submodule, new_slot, new_subslot, no_data, submodule_data}
+use Rattle.connect_blocks.specs.Expected.{data_of as described_data, description, description_kind, expected, expected_module, expected_modules, expected_submodule, new_slot, new_subslot, no_data, submodule_data}
 use Rattle.connect_blocks.specs.Iocr.{frame_id, iocr_block_req, iocr_head, iocr_places, iocr_times, iocr_type, number_of_class, number_of_iocr, rt_class}
 use Rattle.connect_blocks.specs.Objects.{io_object, io_objects, next_object}
 use Rattle.block_codec.specs.declared.block.Block.TheVariants as is
 use Rattle.block_codec.specs.Block.{block, block_bytes, body_of, fields_of}
 use Rattle.block_codec.specs.Kinds.{number_of, type_of}
 use Rattle.end_laws.specs.log_data.Reading.{number_at}
+use Rattle.connects.specs.requests.Request.{alarm_of, ar_of, iocr_of}
+use Rattle.cyclic_data.specs.Layout.{Table}
 use Rattle.plans.specs.Connect.{expected_block}
 use Rattle.plans.specs.Parts.{submodule_of}
 use Rattle.fields_law.specs.Connect.{ArePlaces, AreDescribed, AreSubmodules, IsAlarmRequest, IsCyclicRequest, IsExpectedRequest, IsRelationRequest, IsSizedAlarm, IsSizedCyclic, IsSizedModule, IsSizedPlace, IsSizedRelation, IsSizedSubmodule, submodule_size}
+use Rattle.fields_law.specs.Kept.{IsKeptAlarm, IsKeptCyclic, IsKeptRelation}
 use Rattle.fields_law.specs.Connect as of_connect
 use Rattle.fields_law.specs.Relation as of_relation
 use Rattle.fields_law.proofs.ReadingBlocks.{AreLong, block_is, headed, headed_is, headed_long, header, size_in, with_size}
@@ -48,7 +50,7 @@ module _ (long : AreLong) (asked : ArBlockReq) (sized : IsSizedRelation asked) w
       ∷ big_bytes 4 asked.ar_properties ∷ big_bytes 2 asked.cm_initiator_activity_timeout_factor ∷ big_bytes 2 asked.cm_initiator_udp_rt_port
       ∷ big_bytes 2 (length name) ∷ name ∷ []
 
-  abbrev relation_inside : List ℕ
+  abbrev pub relation_inside : List ℕ
   relation_inside = joined relation_parts []
 
   relation_written : block_bytes (is.ArBlockReq asked) ≡ with_size 0x0101 (size_in (is.ArBlockReq asked)) relation_inside
@@ -98,6 +100,20 @@ module _ (long : AreLong) (asked : ArBlockReq) (sized : IsSizedRelation asked) w
 
   pub relation_read : IsRelationRequest (block_bytes (is.ArBlockReq asked)) asked
   relation_read = subst (λ (xs : List ℕ). IsRelationRequest xs asked) (sym relation_made) relation_is
+
+  -- what a device keeps of it
+  pub kept_relation : IsKeptRelation (block_bytes (is.ArBlockReq asked)) (ar_of asked)
+  kept_relation =
+      let all = relation_read in
+      record {
+        uuid = all.ar_uuid;
+        session_key = all.session_key;
+        initiator = all.mac;
+        object = all.object;
+        properties = all.properties;
+        timeout = all.activity_timeout;
+        name = all.name;
+      }
 
 -- ---- places in a frame
 
@@ -153,7 +169,7 @@ module _ (long : AreLong) (asked : IocrBlockReq) (sized : IsSizedCyclic asked) w
       ∷ big_bytes 2 asked.data_hold_factor ∷ big_bytes 2 asked.iocr_tag_header ∷ asked.iocr_multicast_mac_add.octets ∷ big_bytes 2 1 ∷ big_bytes 4 0
       ∷ big_bytes 2 (length objects) ∷ []
 
-  abbrev cyclic_inside : List ℕ
+  abbrev pub cyclic_inside : List ℕ
   cyclic_inside = joined cyclic_front (objects_bytes objects ++ (big_bytes 2 (length iocs) ++ (objects_bytes iocs ++ [])))
 
   cyclic_spelled : iocr_block_req.write asked [] ≡ cyclic_inside
@@ -254,6 +270,23 @@ module _ (long : AreLong) (asked : IocrBlockReq) (sized : IsSizedCyclic asked) w
   pub cyclic_read : IsCyclicRequest (block_bytes (is.IocrBlockReq asked)) asked
   cyclic_read = subst (λ (xs : List ℕ). IsCyclicRequest xs asked) (sym cyclic_made) cyclic_is
 
+  -- what a device keeps of it
+  kept_here : (layout : Table) → IsKeptCyclic (block_bytes (is.IocrBlockReq asked)) (iocr_of asked layout)
+  kept_here layout =
+      let all = cyclic_read in
+      record {
+        reference = all.reference;
+        class = all.properties;
+        send_clock_factor = all.send_clock_factor;
+        reduction_ratio = all.reduction_ratio;
+        data_hold_factor = all.data_hold_factor;
+        tag_header = all.tag_header;
+      }
+
+pub kept_cyclic : AreLong → (asked : IocrBlockReq) (layout : Table) → IsSizedCyclic asked
+    → IsKeptCyclic (block_bytes (is.IocrBlockReq asked)) (iocr_of asked layout)
+kept_cyclic long asked layout sized = kept_here long asked sized layout
+
 -- ---- AlarmCRBlockReq
 
 module _ (long : AreLong) (asked : AlarmCrBlockReq) (sized : IsSizedAlarm asked) where
@@ -263,7 +296,7 @@ module _ (long : AreLong) (asked : AlarmCrBlockReq) (sized : IsSizedAlarm asked)
       ∷ big_bytes 2 asked.local_alarm_reference ∷ big_bytes 2 asked.max_alarm_data_length ∷ big_bytes 2 asked.tag_header_high
       ∷ big_bytes 2 asked.tag_header_low ∷ []
 
-  abbrev alarm_inside : List ℕ
+  abbrev pub alarm_inside : List ℕ
   alarm_inside = joined alarm_parts []
 
   alarm_written : block_bytes (is.AlarmCrBlockReq asked) ≡ with_size 0x0103 (size_in (is.AlarmCrBlockReq asked)) alarm_inside
@@ -297,6 +330,18 @@ module _ (long : AreLong) (asked : AlarmCrBlockReq) (sized : IsSizedAlarm asked)
   pub alarm_read : IsAlarmRequest (block_bytes (is.AlarmCrBlockReq asked)) asked
   alarm_read = subst (λ (xs : List ℕ). IsAlarmRequest xs asked) (sym alarm_made) alarm_is
 
+  -- what a device keeps of it
+  pub kept_alarm : IsKeptAlarm (block_bytes (is.AlarmCrBlockReq asked)) (alarm_of asked)
+  kept_alarm =
+      let all = alarm_read in
+      record {
+        timeout_factor = all.timeout_factor;
+        retries = all.retries;
+        reference = all.reference;
+        tag_high = all.tag_high;
+        tag_low = all.tag_low;
+      }
+
 -- ---- ExpectedSubmoduleBlockReq
 
 -- a submodule as it is written, by whether it has no input and no output
@@ -314,7 +359,7 @@ IsOneRead no_input no_output part octets after =
 
 one_read : (no_input no_output : Bool) (part : RealSubmodule) (after : List ℕ) → IsSizedSubmodule part
     → IsOneRead no_input no_output part ((expected_submodule []).write (described no_input no_output part) after) after
-unfolding expected_submodule new_subslot submodule_data no_data of_expected.data_of description description_kind number_bytes
+unfolding expected_submodule new_subslot submodule_data no_data described_data description description_kind number_bytes
 one_read true true part after sized = (
   big_number-reads_back 2 part.subslot [] sized.subslot,
   big_number-reads_back 4 part.ident [] sized.ident,
@@ -371,7 +416,7 @@ submodules_read before (part ∷ parts) all =
 
 one_few : (no_input no_output : Bool) (part : RealSubmodule) (after : List ℕ)
     → length ((expected_submodule []).write (described no_input no_output part) after) ≤ 20 + length after
-unfolding expected_submodule new_subslot submodule_data no_data of_expected.data_of description description_kind number_bytes
+unfolding expected_submodule new_subslot submodule_data no_data described_data description description_kind number_bytes
 one_few true true part after = omega arith
 one_few false true part after = omega arith
 one_few true false part after = omega arith
@@ -400,7 +445,7 @@ module _ (long : AreLong) (entry : RealModule) (sized : IsSizedModule entry) whe
       big_bytes 2 1 ++ (big_bytes 4 0 ++ (big_bytes 2 entry.slot ++ (big_bytes 4 entry.ident ++ (big_bytes 2 0 ++ (big_bytes 2 (length own)
       ++ write_each (next_entry expected_submodule 0) [] submodules [])))))
 
-  abbrev expected_inside : List ℕ
+  abbrev pub expected_inside : List ℕ
   expected_inside = expected_with (map submodule_of own)
 
   expected_spelled : expected.write (expected_block entry) [] ≡ expected_with (take (length own) (map submodule_of own))
