@@ -11,3 +11,4 @@ pub mod ReadingModules
 pub mod ReadingAnswer
 pub mod ReadingAlarm
 pub mod ReadingRecords
+pub mod ReadingAnnouncement

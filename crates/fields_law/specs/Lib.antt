@@ -13,3 +13,4 @@ pub mod Modules
 pub mod Answer
 pub mod Alarm
 pub mod Records
+pub mod Announcement
