@@ -56,6 +56,9 @@ module _ (long : AreLong) (identity : Identity) (request : Request) (number : �
       let l = ar_inside_long in
       omega (arith, made, l)
 
+  ar_whole : headed 0x8101 ar_inside ≡ joined (header 0x8101 ar_inside ∷ ar_parts) []
+  ar_whole = refl
+
   abbrev ar_first : ℕ → List (List ℕ)
   ar_first count = take count (header 0x8101 ar_inside ∷ ar_parts)
 
@@ -66,11 +69,11 @@ module _ (long : AreLong) (identity : Identity) (request : Request) (number : �
       let l = ar_inside_long in
       record {
         block = block_is 0x8101 ar_inside (omega arith) (omega (arith, l));
-        ar_type = number_is _ (ar_first 1) 6 2 1 refl refl (omega arith);
-        ar_uuid = octets_are _ (ar_first 2) 8 16 request.ar.uuid refl refl a;
-        session_key = number_is _ (ar_first 3) 24 2 request.ar.session_key refl (omega (arith, a)) sized.session_key;
-        mac = octets_are _ (ar_first 4) 26 6 identity.mac.octets refl (omega (arith, a)) b;
-        port = number_is _ (ar_first 5) 32 2 0x8892 refl (omega (arith, a, b)) (omega arith);
+        ar_type = number_is _ (ar_first 1) 6 2 1 ar_whole refl (omega arith);
+        ar_uuid = octets_are _ (ar_first 2) 8 16 request.ar.uuid ar_whole refl a;
+        session_key = number_is _ (ar_first 3) 24 2 request.ar.session_key ar_whole (omega (arith, a)) sized.session_key;
+        mac = octets_are _ (ar_first 4) 26 6 identity.mac.octets ar_whole (omega (arith, a)) b;
+        port = number_is _ (ar_first 5) 32 2 0x8892 ar_whole (omega (arith, a, b)) (omega arith);
       }
 
   ar_read : IsRelationAnswer (ar_answer identity request) request identity.mac

@@ -72,6 +72,9 @@ module _ (long : AreLong) (asked : ArBlockReq) (sized : IsSizedRelation asked) w
   pub relation_few : length relation_inside < 65000
   relation_few = let l = relation_long in let n = sized.name in omega (arith, l, n)
 
+  relation_whole : headed 0x0101 relation_inside ≡ joined (header 0x0101 relation_inside ∷ relation_parts) []
+  relation_whole = refl
+
   abbrev relation_first : ℕ → List (List ℕ)
   relation_first count = take count (header 0x0101 relation_inside ∷ relation_parts)
 
@@ -85,16 +88,16 @@ module _ (long : AreLong) (asked : ArBlockReq) (sized : IsSizedRelation asked) w
       let h = headed_long 0x0101 relation_inside in
       record {
         block = block_is 0x0101 relation_inside (omega arith) relation_few;
-        ar_type = number_is _ (relation_first 1) 6 2 1 refl refl (omega arith);
-        ar_uuid = octets_are _ (relation_first 2) 8 16 asked.ar_uuid refl refl a;
-        session_key = number_is _ (relation_first 3) 24 2 asked.session_key refl (omega (arith, a)) sized.session_key;
-        mac = octets_are _ (relation_first 4) 26 6 asked.cm_initiator_mac_add.octets refl (omega (arith, a)) b;
-        object = octets_are _ (relation_first 5) 32 16 asked.cm_initiator_object_uuid refl (omega (arith, a, b)) c;
-        properties = number_is _ (relation_first 6) 48 4 asked.ar_properties refl (omega (arith, a, b, c)) sized.properties;
-        activity_timeout = number_is _ (relation_first 7) 52 2 asked.cm_initiator_activity_timeout_factor refl (omega (arith, a, b, c)) sized.activity_timeout;
-        port = number_is _ (relation_first 8) 54 2 asked.cm_initiator_udp_rt_port refl (omega (arith, a, b, c)) sized.port;
-        name_length = number_is _ (relation_first 9) 56 2 (length name) refl (omega (arith, a, b, c)) (omega (arith, n));
-        name = octets_are _ (relation_first 10) 58 (length name) name refl (omega (arith, a, b, c)) refl;
+        ar_type = number_is _ (relation_first 1) 6 2 1 relation_whole refl (omega arith);
+        ar_uuid = octets_are _ (relation_first 2) 8 16 asked.ar_uuid relation_whole refl a;
+        session_key = number_is _ (relation_first 3) 24 2 asked.session_key relation_whole (omega (arith, a)) sized.session_key;
+        mac = octets_are _ (relation_first 4) 26 6 asked.cm_initiator_mac_add.octets relation_whole (omega (arith, a)) b;
+        object = octets_are _ (relation_first 5) 32 16 asked.cm_initiator_object_uuid relation_whole (omega (arith, a, b)) c;
+        properties = number_is _ (relation_first 6) 48 4 asked.ar_properties relation_whole (omega (arith, a, b, c)) sized.properties;
+        activity_timeout = number_is _ (relation_first 7) 52 2 asked.cm_initiator_activity_timeout_factor relation_whole (omega (arith, a, b, c)) sized.activity_timeout;
+        port = number_is _ (relation_first 8) 54 2 asked.cm_initiator_udp_rt_port relation_whole (omega (arith, a, b, c)) sized.port;
+        name_length = number_is _ (relation_first 9) 56 2 (length name) relation_whole (omega (arith, a, b, c)) (omega (arith, n));
+        name = octets_are _ (relation_first 10) 58 (length name) name relation_whole (omega (arith, a, b, c)) refl;
         end = omega (arith, h, l);
       }
 
@@ -198,6 +201,9 @@ module _ (long : AreLong) (asked : IocrBlockReq) (sized : IsSizedCyclic asked) w
       ∷ asked.iocr_multicast_mac_add.octets ∷ big_bytes 2 1 ∷ big_bytes 4 0 ∷ big_bytes 2 (length objects) ∷ objects_bytes objects
       ∷ big_bytes 2 (length iocs) ∷ objects_bytes iocs ∷ []
 
+  cyclic_whole : headed 0x0102 cyclic_inside ≡ joined cyclic_parts []
+  cyclic_whole = refl
+
   abbrev cyclic_first : ℕ → List (List ℕ)
   cyclic_first count = take count cyclic_parts
 
@@ -239,30 +245,30 @@ module _ (long : AreLong) (asked : IocrBlockReq) (sized : IsSizedCyclic asked) w
       let h = headed_long 0x0102 cyclic_inside in
       record {
         block = block_is 0x0102 cyclic_inside (omega arith) cyclic_few;
-        type_is = number_is _ (cyclic_first 1) 6 2 (number_of_iocr asked.iocr_type) refl refl (type_is_read asked.iocr_type).1 ∙ (type_is_read asked.iocr_type).0;
-        reference = number_is _ (cyclic_first 2) 8 2 asked.iocr_reference refl refl sized.reference;
-        ether_type = number_is _ (cyclic_first 3) 10 2 0x8892 refl refl (omega arith);
+        type_is = number_is _ (cyclic_first 1) 6 2 (number_of_iocr asked.iocr_type) cyclic_whole refl (type_is_read asked.iocr_type).1 ∙ (type_is_read asked.iocr_type).0;
+        reference = number_is _ (cyclic_first 2) 8 2 asked.iocr_reference cyclic_whole refl sized.reference;
+        ether_type = number_is _ (cyclic_first 3) 10 2 0x8892 cyclic_whole refl (omega arith);
         properties =
-            number_is _ (cyclic_first 4) 12 4 (number_of_class asked.iocr_properties) refl refl (class_is_read asked.iocr_properties).1
+            number_is _ (cyclic_first 4) 12 4 (number_of_class asked.iocr_properties) cyclic_whole refl (class_is_read asked.iocr_properties).1
             ∙ (class_is_read asked.iocr_properties).0;
-        data_length = number_is _ (cyclic_first 5) 16 2 asked.data_length refl refl sized.data_length;
-        frame_id = number_is _ (cyclic_first 6) 18 2 asked.frame_id refl refl sized.frame_id;
-        send_clock_factor = number_is _ (cyclic_first 7) 20 2 asked.send_clock_factor refl refl sized.send_clock_factor;
-        reduction_ratio = number_is _ (cyclic_first 8) 22 2 asked.reduction_ratio refl refl sized.reduction_ratio;
-        phase = number_is _ (cyclic_first 9) 24 2 asked.phase refl refl sized.phase;
-        sequence = number_is _ (cyclic_first 10) 26 2 asked.sequence refl refl sized.sequence;
-        frame_send_offset = number_is _ (cyclic_first 11) 28 4 asked.frame_send_offset refl refl sized.frame_send_offset;
-        watchdog_factor = number_is _ (cyclic_first 12) 32 2 asked.watchdog_factor refl refl sized.watchdog_factor;
-        data_hold_factor = number_is _ (cyclic_first 13) 34 2 asked.data_hold_factor refl refl sized.data_hold_factor;
-        tag_header = number_is _ (cyclic_first 14) 36 2 asked.iocr_tag_header refl refl sized.tag_header;
-        multicast = octets_are _ (cyclic_first 15) 38 6 asked.iocr_multicast_mac_add.octets refl refl a;
-        apis = number_is _ (cyclic_first 16) 44 2 1 refl (omega (arith, a)) (omega arith);
-        api = number_is _ (cyclic_first 17) 46 4 0 refl (omega (arith, a)) (omega arith);
-        object_count = number_is _ (cyclic_first 18) 50 2 (length objects) refl (omega (arith, a)) (omega (arith, f));
+        data_length = number_is _ (cyclic_first 5) 16 2 asked.data_length cyclic_whole refl sized.data_length;
+        frame_id = number_is _ (cyclic_first 6) 18 2 asked.frame_id cyclic_whole refl sized.frame_id;
+        send_clock_factor = number_is _ (cyclic_first 7) 20 2 asked.send_clock_factor cyclic_whole refl sized.send_clock_factor;
+        reduction_ratio = number_is _ (cyclic_first 8) 22 2 asked.reduction_ratio cyclic_whole refl sized.reduction_ratio;
+        phase = number_is _ (cyclic_first 9) 24 2 asked.phase cyclic_whole refl sized.phase;
+        sequence = number_is _ (cyclic_first 10) 26 2 asked.sequence cyclic_whole refl sized.sequence;
+        frame_send_offset = number_is _ (cyclic_first 11) 28 4 asked.frame_send_offset cyclic_whole refl sized.frame_send_offset;
+        watchdog_factor = number_is _ (cyclic_first 12) 32 2 asked.watchdog_factor cyclic_whole refl sized.watchdog_factor;
+        data_hold_factor = number_is _ (cyclic_first 13) 34 2 asked.data_hold_factor cyclic_whole refl sized.data_hold_factor;
+        tag_header = number_is _ (cyclic_first 14) 36 2 asked.iocr_tag_header cyclic_whole refl sized.tag_header;
+        multicast = octets_are _ (cyclic_first 15) 38 6 asked.iocr_multicast_mac_add.octets cyclic_whole refl a;
+        apis = number_is _ (cyclic_first 16) 44 2 1 cyclic_whole (omega (arith, a)) (omega arith);
+        api = number_is _ (cyclic_first 17) 46 4 0 cyclic_whole (omega (arith, a)) (omega arith);
+        object_count = number_is _ (cyclic_first 18) 50 2 (length objects) cyclic_whole (omega (arith, a)) (omega (arith, f));
         objects =
             subst (λ (xs : List ℕ). ArePlaces xs objects) (sym objects_there)
             (places_read objects (big_bytes 2 (length iocs) ++ (objects_bytes iocs ++ [])) sized.objects);
-        iocs_count = number_is _ (cyclic_first 20) (52 + 6 * length objects) 2 (length iocs) refl (omega (arith, a, b)) (omega (arith, g));
+        iocs_count = number_is _ (cyclic_first 20) (52 + 6 * length objects) 2 (length iocs) cyclic_whole (omega (arith, a, b)) (omega (arith, g));
         iocs = subst (λ (xs : List ℕ). ArePlaces xs iocs) (sym iocs_there) (places_read iocs [] sized.iocs);
         end = omega (arith, h, l);
       }
@@ -306,6 +312,9 @@ module _ (long : AreLong) (asked : AlarmCrBlockReq) (sized : IsSizedAlarm asked)
   pub alarm_made : block_bytes (is.AlarmCrBlockReq asked) ≡ headed 0x0103 alarm_inside
   alarm_made = headed_is long (is.AlarmCrBlockReq asked) 0x0103 alarm_inside alarm_written
 
+  alarm_whole : headed 0x0103 alarm_inside ≡ joined (header 0x0103 alarm_inside ∷ alarm_parts) []
+  alarm_whole = refl
+
   abbrev alarm_first : ℕ → List (List ℕ)
   alarm_first count = take count (header 0x0103 alarm_inside ∷ alarm_parts)
 
@@ -315,15 +324,15 @@ module _ (long : AreLong) (asked : AlarmCrBlockReq) (sized : IsSizedAlarm asked)
   alarm_is : IsAlarmRequest (headed 0x0103 alarm_inside) asked
   alarm_is = record {
     block = block_is 0x0103 alarm_inside (omega arith) alarm_few;
-    type_is = number_is _ (alarm_first 1) 6 2 1 refl refl (omega arith);
-    ether_type = number_is _ (alarm_first 2) 8 2 0x8892 refl refl (omega arith);
-    properties = number_is _ (alarm_first 3) 10 4 asked.alarm_cr_properties refl refl sized.properties;
-    timeout_factor = number_is _ (alarm_first 4) 14 2 asked.rta_timeout_factor refl refl sized.timeout_factor;
-    retries = number_is _ (alarm_first 5) 16 2 asked.rta_retries refl refl sized.retries;
-    reference = number_is _ (alarm_first 6) 18 2 asked.local_alarm_reference refl refl sized.reference;
-    data_length = number_is _ (alarm_first 7) 20 2 asked.max_alarm_data_length refl refl sized.data_length;
-    tag_high = number_is _ (alarm_first 8) 22 2 asked.tag_header_high refl refl sized.tag_high;
-    tag_low = number_is _ (alarm_first 9) 24 2 asked.tag_header_low refl refl sized.tag_low;
+    type_is = number_is _ (alarm_first 1) 6 2 1 alarm_whole refl (omega arith);
+    ether_type = number_is _ (alarm_first 2) 8 2 0x8892 alarm_whole refl (omega arith);
+    properties = number_is _ (alarm_first 3) 10 4 asked.alarm_cr_properties alarm_whole refl sized.properties;
+    timeout_factor = number_is _ (alarm_first 4) 14 2 asked.rta_timeout_factor alarm_whole refl sized.timeout_factor;
+    retries = number_is _ (alarm_first 5) 16 2 asked.rta_retries alarm_whole refl sized.retries;
+    reference = number_is _ (alarm_first 6) 18 2 asked.local_alarm_reference alarm_whole refl sized.reference;
+    data_length = number_is _ (alarm_first 7) 20 2 asked.max_alarm_data_length alarm_whole refl sized.data_length;
+    tag_high = number_is _ (alarm_first 8) 22 2 asked.tag_header_high alarm_whole refl sized.tag_high;
+    tag_low = number_is _ (alarm_first 9) 24 2 asked.tag_header_low alarm_whole refl sized.tag_low;
     end = refl;
   }
 

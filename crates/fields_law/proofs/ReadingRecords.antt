@@ -54,6 +54,9 @@ module _ (long : AreLong) (identity : Identity) (sized : IsSizedIdentity identit
       let c = sized.software_revision in
       omega (arith, all, a, b, c)
 
+  im0_whole : headed 0x0020 im0_inside ≡ joined (header 0x0020 im0_inside ∷ im0_parts) []
+  im0_whole = refl
+
   abbrev im0_first : ℕ → List (List ℕ)
   im0_first count = take count (header 0x0020 im0_inside ∷ im0_parts)
 
@@ -66,16 +69,16 @@ module _ (long : AreLong) (identity : Identity) (sized : IsSizedIdentity identit
       let h = headed_long 0x0020 im0_inside in
       record {
         block = block_is 0x0020 im0_inside (omega arith) (omega (arith, l));
-        vendor_id = number_is _ (im0_first 1) 6 2 identity.vendor_id refl refl sized.vendor_id;
-        order_id = octets_are _ (im0_first 2) 8 20 identity.order_id refl refl a;
-        serial_number = octets_are _ (im0_first 3) 28 16 identity.serial_number refl (omega (arith, a)) b;
-        hardware_revision = number_is _ (im0_first 4) 44 2 identity.hardware_revision refl (omega (arith, a, b)) sized.hardware_revision;
-        software_revision = octets_are _ (im0_first 5) 46 4 identity.software_revision refl (omega (arith, a, b)) c;
-        revision_counter = number_is _ (im0_first 6) 50 2 0 refl (omega (arith, a, b, c)) (omega arith);
-        profile_id = number_is _ (im0_first 7) 52 2 identity.profile_id refl (omega (arith, a, b, c)) sized.profile_id;
-        profile_type = number_is _ (im0_first 8) 54 2 identity.profile_specific_type refl (omega (arith, a, b, c)) sized.profile_type;
-        version = octets_are _ (im0_first 9) 56 2 (1 ∷ 1 ∷ []) refl (omega (arith, a, b, c)) refl;
-        supported = number_is _ (im0_first 10) 58 2 0x001E refl (omega (arith, a, b, c)) (omega arith);
+        vendor_id = number_is _ (im0_first 1) 6 2 identity.vendor_id im0_whole refl sized.vendor_id;
+        order_id = octets_are _ (im0_first 2) 8 20 identity.order_id im0_whole refl a;
+        serial_number = octets_are _ (im0_first 3) 28 16 identity.serial_number im0_whole (omega (arith, a)) b;
+        hardware_revision = number_is _ (im0_first 4) 44 2 identity.hardware_revision im0_whole (omega (arith, a, b)) sized.hardware_revision;
+        software_revision = octets_are _ (im0_first 5) 46 4 identity.software_revision im0_whole (omega (arith, a, b)) c;
+        revision_counter = number_is _ (im0_first 6) 50 2 0 im0_whole (omega (arith, a, b, c)) (omega arith);
+        profile_id = number_is _ (im0_first 7) 52 2 identity.profile_id im0_whole (omega (arith, a, b, c)) sized.profile_id;
+        profile_type = number_is _ (im0_first 8) 54 2 identity.profile_specific_type im0_whole (omega (arith, a, b, c)) sized.profile_type;
+        version = octets_are _ (im0_first 9) 56 2 (1 ∷ 1 ∷ []) im0_whole (omega (arith, a, b, c)) refl;
+        supported = number_is _ (im0_first 10) 58 2 0x001E im0_whole (omega (arith, a, b, c)) (omega arith);
         end = omega (arith, h, l);
       }
 
@@ -93,44 +96,45 @@ text_is : (octets : List ℕ) (type : ℕ) (text : List ℕ) → type < 65536 �
 text_is octets type text fits few made =
     subst (λ (xs : List ℕ). IsText xs type text) (sym made) (record { block = block_is type text fits few; text_is = refl })
 
-module _ (long : AreLong) (text : List ℕ) where
-  im1_made : im1_record text ≡ headed 0x0021 text
-  im1_made = headed_is long (is.Im1 (im1_of text)) 0x0021 text written
-    where
-      spelled : im1_record text ≡ with_size 0x0021 (size_in (is.Im1 (im1_of text))) ((take 32 text ++ (drop 32 text ++ [])) ++ [])
-      unfolding block_bytes block body_of fields_of number_of type_of body version im1 number_bytes octet_bytes
-      spelled = refl
-
-      written : im1_record text ≡ with_size 0x0021 (size_in (is.Im1 (im1_of text))) text
-      written =
-          let whole : (take 32 text ++ (drop 32 text ++ [])) ++ [] ≡ text =
-          append-nil (take 32 text ++ (drop 32 text ++ [])) ∙ ap (λ (xs : List ℕ). take 32 text ++ xs) (append-nil (drop 32 text))
-          ∙ take-append-drop 32 text in
-          spelled ∙ ap (λ (xs : List ℕ). with_size 0x0021 (size_in (is.Im1 (im1_of text))) xs) whole
-
+module _ (text : List ℕ) where
   twice_nil : (text ++ []) ++ [] ≡ text
   twice_nil = append-nil (text ++ []) ∙ append-nil text
 
+  abbrev both_parts : List ℕ
+  both_parts = (take 32 text ++ (drop 32 text ++ [])) ++ []
+
+  both_there : both_parts ≡ text
+  both_there =
+      append-nil (take 32 text ++ (drop 32 text ++ [])) ∙ ap (λ (xs : List ℕ). take 32 text ++ xs) (append-nil (drop 32 text)) ∙ take-append-drop 32 text
+
+  im1_written : im1_record text ≡ with_size 0x0021 (size_in (is.Im1 (im1_of text))) text
+  unfolding block_bytes block body_of fields_of number_of type_of body version im1 number_bytes octet_bytes
+  im1_written = ap (λ (xs : List ℕ). with_size 0x0021 (size_in (is.Im1 (im1_of text))) xs) both_there
+
+  im2_written : im2_record text ≡ with_size 0x0022 (size_in (is.Im2 (record { im_date = text }))) text
+  unfolding block_bytes block body_of fields_of number_of type_of body version im2 number_bytes octet_bytes
+  im2_written = ap (λ (xs : List ℕ). with_size 0x0022 (size_in (is.Im2 (record { im_date = text }))) xs) twice_nil
+
+  im3_written : im3_record text ≡ with_size 0x0023 (size_in (is.Im3 (record { im_descriptor = text }))) text
+  unfolding block_bytes block body_of fields_of number_of type_of body version im3 number_bytes octet_bytes
+  im3_written = ap (λ (xs : List ℕ). with_size 0x0023 (size_in (is.Im3 (record { im_descriptor = text }))) xs) twice_nil
+
+  im4_written : im4_record text ≡ with_size 0x0024 (size_in (is.Im4 (record { im_signature = text }))) text
+  unfolding block_bytes block body_of fields_of number_of type_of body version im4 number_bytes octet_bytes
+  im4_written = ap (λ (xs : List ℕ). with_size 0x0024 (size_in (is.Im4 (record { im_signature = text }))) xs) twice_nil
+
+module _ (long : AreLong) (text : List ℕ) where
+  im1_made : im1_record text ≡ headed 0x0021 text
+  im1_made = headed_is long (is.Im1 (im1_of text)) 0x0021 text (im1_written text)
+
   im2_made : im2_record text ≡ headed 0x0022 text
-  im2_made = headed_is long (is.Im2 (record { im_date = text })) 0x0022 text written
-    where
-      written : im2_record text ≡ with_size 0x0022 (size_in (is.Im2 (record { im_date = text }))) text
-      unfolding block_bytes block body_of fields_of number_of type_of body version im2 number_bytes octet_bytes
-      written = ap (λ (xs : List ℕ). with_size 0x0022 (size_in (is.Im2 (record { im_date = text }))) xs) twice_nil
+  im2_made = headed_is long (is.Im2 (record { im_date = text })) 0x0022 text (im2_written text)
 
   im3_made : im3_record text ≡ headed 0x0023 text
-  im3_made = headed_is long (is.Im3 (record { im_descriptor = text })) 0x0023 text written
-    where
-      written : im3_record text ≡ with_size 0x0023 (size_in (is.Im3 (record { im_descriptor = text }))) text
-      unfolding block_bytes block body_of fields_of number_of type_of body version im3 number_bytes octet_bytes
-      written = ap (λ (xs : List ℕ). with_size 0x0023 (size_in (is.Im3 (record { im_descriptor = text }))) xs) twice_nil
+  im3_made = headed_is long (is.Im3 (record { im_descriptor = text })) 0x0023 text (im3_written text)
 
   im4_made : im4_record text ≡ headed 0x0024 text
-  im4_made = headed_is long (is.Im4 (record { im_signature = text })) 0x0024 text written
-    where
-      written : im4_record text ≡ with_size 0x0024 (size_in (is.Im4 (record { im_signature = text }))) text
-      unfolding block_bytes block body_of fields_of number_of type_of body version im4 number_bytes octet_bytes
-      written = ap (λ (xs : List ℕ). with_size 0x0024 (size_in (is.Im4 (record { im_signature = text }))) xs) twice_nil
+  im4_made = headed_is long (is.Im4 (record { im_signature = text })) 0x0024 text (im4_written text)
 
 module _ (long : AreLong) (identity : Identity) (real : Real) (settings : Settings) where
   pub im1_read : length settings.im1 ≡ 54 → HasText (record_of 0xAFF1 0 1 identity real settings) 0x0021 settings.im1

@@ -5,13 +5,13 @@
 #![tactic(auto)]
 
 mod alarms;
-mod announcement;
-mod connects;
-mod lists;
+mod announcing;
+mod connecting;
+mod listing;
 mod reading;
 
 pub use alarms::alarms_are_read_back;
-pub use announcement::announcements_are_read_back;
-pub use connects::{connect_answers_are_read_back, connects_are_read_back};
-pub use lists::{elements_are_read_back, lists_are_read_back, maintenance_is_read_back};
+pub use announcing::announcements_are_read_back;
+pub use connecting::{connect_answers_are_read_back, connects_are_read_back};
+pub use listing::{elements_are_read_back, lists_are_read_back, maintenance_is_read_back};
 pub use reading::{answers_are_read_back, records_are_read_back};

@@ -5,7 +5,7 @@ use Rattle.device_records.specs.Found.{found_of}
 use Rattle.records.specs.reads.Listing.{plugged_of}
 use Rattle.fields_law.proofs.ReadingModules.{filter_device_read, filter_submodules_read, identification_read}
 use Rattle.fields_law.proofs.ReadingRecords.{api_is}
-use Rattle.fields_law.proofs.lists.lists_are_read_back.Goals as goal
+use Rattle.fields_law.proofs.listing.lists_are_read_back.Goals as goal
 
 pub returns : goal.returns
 returns c =

@@ -1,6 +1,6 @@
 -- Each field at its place.
 use Rattle.fields_law.proofs.ReadingRecords.{im0_read, im1_read, im2_read, im3_read, im4_read}
-use Rattle.fields_law.proofs.lists.maintenance_is_read_back.Goals as goal
+use Rattle.fields_law.proofs.listing.maintenance_is_read_back.Goals as goal
 
 pub returns : goal.returns
 returns c =

@@ -1,7 +1,7 @@
 -- Each field at its place.
 use Rattle.fields_law.proofs.ReadingConnect.{alarm_read, cyclic_read, expected_read, kept_alarm, kept_cyclic, kept_relation, relation_read}
 use Rattle.fields_law.proofs.ReadingPlanned.{connect_is}
-use Rattle.fields_law.proofs.connects.connects_are_read_back.Goals as goal
+use Rattle.fields_law.proofs.connecting.connects_are_read_back.Goals as goal
 
 pub returns : goal.returns
 returns c =

@@ -1,7 +1,7 @@
 -- Each field at its place.
 use Rattle.fields_law.proofs.ReadingAnswer.{answer_is}
 use Rattle.fields_law.proofs.ReadingModules.{module_diff_read}
-use Rattle.fields_law.proofs.connects.connect_answers_are_read_back.Goals as goal
+use Rattle.fields_law.proofs.connecting.connect_answers_are_read_back.Goals as goal
 
 pub returns : goal.returns
 returns c =
