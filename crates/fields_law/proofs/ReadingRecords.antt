@@ -184,20 +184,23 @@ module _ (iocs iops : ℕ) (value : List ℕ) (few : length value ≤ 1440) wher
   abbrev size : ℕ
   size = length value
 
-  abbrev substitute_inside : List ℕ
-  substitute_inside = 0 ∷ 0 ∷ iocs ∷ (replicate size 0 ++ 0x80 ∷ [])
+  abbrev zeros : List ℕ
+  zeros = replicate size 0
 
-  substitute_parts_long : length (replicate size 0) ≡ size
+  abbrev substitute_inside : List ℕ
+  substitute_inside = 0 ∷ 0 ∷ iocs ∷ (zeros ++ 0x80 ∷ [])
+
+  substitute_parts_long : length zeros ≡ size
   substitute_parts_long = length-replicate {A = ℕ} size 0
 
   substitute_long : length substitute_inside ≡ 4 + size
   substitute_long =
-      let a = length-append (replicate size 0) (0x80 ∷ []) in
+      let a = length-append zeros (0x80 ∷ []) in
       let b = substitute_parts_long in
       omega (arith, a, b)
 
   abbrev substitute_parts : List (List ℕ)
-  substitute_parts = header 0x0014 substitute_inside ∷ (0 ∷ 0 ∷ []) ∷ (iocs ∷ []) ∷ replicate size 0 ∷ []
+  substitute_parts = header 0x0014 substitute_inside ∷ (0 ∷ 0 ∷ []) ∷ (iocs ∷ []) ∷ zeros ∷ []
 
   substitute_there : IsSubstitute (headed 0x0014 substitute_inside) iocs size
   substitute_there =
@@ -207,7 +210,7 @@ module _ (iocs iops : ℕ) (value : List ℕ) (few : length value ≤ 1440) wher
         block = block_is 0x0014 substitute_inside (omega arith) (omega (arith, l, few));
         mode = refl;
         iocs_is = refl;
-        value = octets_are (0x80 ∷ []) (take 3 substitute_parts) 9 size (replicate size 0) refl refl b;
+        value = octets_are (0x80 ∷ []) (take 3 substitute_parts) 9 size zeros refl refl b;
         iops = at_place (headed 0x0014 substitute_inside) (0x80 ∷ []) substitute_parts (9 + size) refl (omega (arith, b));
       }
 
