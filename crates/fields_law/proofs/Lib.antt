@@ -12,3 +12,4 @@ pub mod ReadingAnswer
 pub mod ReadingAlarm
 pub mod ReadingRecords
 pub mod ReadingAnnouncement
+pub mod ReadingPlugged

@@ -132,7 +132,7 @@ diff_read (entry ∷ entries) parts counted entries_fit parts_fit =
       big_number-reads_back 2 entry.number_of_submodules [] entries_fit.0.count,
       diff_parts_read (take count parts) after (all_taken IsSizedDiffSubmodule count parts parts_fit),
       subst (λ (xs : List ℕ). AreDiffModules xs entries (drop count parts)) (sym (diff_after entry entries parts long.0))
-      (diff_read entries (drop count parts) (sym long.1) entries_fit.1 (all_left IsSizedDiffSubmodule count parts parts_fit)),
+          (diff_read entries (drop count parts) (sym long.1) entries_fit.1 (all_left IsSizedDiffSubmodule count parts parts_fit)),
     )
 
 diff_long : (entries : List DiffModule) (parts : List DiffSubmodule) → diff_count entries ≡ length parts
@@ -245,7 +245,7 @@ listed_read (entry ∷ entries) parts counted entries_fit parts_fit =
       big_number-reads_back 2 entry.number_of_submodules [] entries_fit.0.count,
       listed_parts_read (take count parts) after (all_taken IsSizedListedPart count parts parts_fit),
       subst (λ (xs : List ℕ). AreListedModules xs entries (drop count parts)) (sym (listed_after entry entries parts long.0))
-      (listed_read entries (drop count parts) (sym long.1) entries_fit.1 (all_left IsSizedListedPart count parts parts_fit)),
+          (listed_read entries (drop count parts) (sym long.1) entries_fit.1 (all_left IsSizedListedPart count parts parts_fit)),
     )
 
 listed_long : (entries : List FilterModule) (parts : List FilterSubmodule) → listed_count entries ≡ length parts

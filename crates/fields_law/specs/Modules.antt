@@ -1,6 +1,8 @@
 -- Lists of modules, each followed by its submodules, as a reader finds them (IEC 61158-6-10, 5.2.3 and 5.2.4.11).
 use Rattle.std.specs.Prelude.{◌≡◌, ◌+◌, ◌*◌, ◌^◌, ◌<◌, ◌≤◌, ℕ, List, [], ◌∷◌, drop, length, take}
 use Rattle.std.specs.List.{AllByRecursion}
+use Rattle.pn_values.specs.declared.real.RealModule.{RealModule}
+use Rattle.pn_values.specs.declared.real.RealSubmodule.{RealSubmodule}
 use Rattle.connect_blocks.specs.declared.module_diff.DiffModule.{DiffModule}
 use Rattle.connect_blocks.specs.declared.module_diff.DiffSubmodule.{DiffSubmodule}
 use Rattle.record_blocks.specs.declared.filter_data.FilterModule.{FilterModule}
@@ -110,3 +112,35 @@ pub record IsSizedListing (rows : Listed FilterModule FilterSubmodule) : Type 0 
   pub submodules : AllByRecursion IsSizedListedPart rows.submodules
   pub few_submodules : length rows.submodules ≤ 256
   pub counted : listed_count rows.modules ≡ length rows.submodules
+
+-- ---- what is plugged
+
+-- The submodules of a module one after another: SubslotNumber, SubmoduleIdentNumber.
+abbrev pub ArePluggedParts : List ℕ → List RealSubmodule → Type 0
+ArePluggedParts octets [] = Unit {0}
+ArePluggedParts octets (part ∷ parts) =
+    (number_at 0 2 octets ≡ part.subslot) × (number_at 2 4 octets ≡ part.ident) × ArePluggedParts (drop 6 octets) parts
+
+-- Modules one after another, to the end: SlotNumber, ModuleIdentNumber, NumberOfSubmodules, and all submodules.
+abbrev pub ArePlugged : List ℕ → List RealModule → Type 0
+ArePlugged octets [] = octets ≡ []
+ArePlugged octets (entry ∷ entries) =
+    (number_at 0 2 octets ≡ entry.slot) × (number_at 2 4 octets ≡ entry.ident) × (number_at 6 2 octets ≡ length entry.submodules.items)
+    × ArePluggedParts (drop 8 octets) entry.submodules.items × ArePlugged (drop (8 + 6 * length entry.submodules.items) octets) entries
+
+-- RealIdentificationData of the whole device, BlockType 0x0013, version 1.1: NumberOfAPIs 1, API 0, NumberOfModules, and each module that is plugged.
+pub record IsPluggedList (octets : List ℕ) (modules : List RealModule) : Type 0 where
+  pub kind : number_at 0 2 octets ≡ 0x0013
+  pub size : number_at 2 2 octets + 4 ≡ length octets
+  pub version : octets_at 4 2 octets ≡ 1 ∷ 1 ∷ []
+  pub apis : number_at 6 2 octets ≡ 1
+  pub api : number_at 8 4 octets ≡ 0
+  pub count : number_at 12 2 octets ≡ length modules
+  pub modules_are : ArePlugged (drop 14 octets) modules
+
+-- A module of a device: its numbers have their sizes, and it has at most four submodules.
+pub record IsPluggedModule (entry : RealModule) : Type 0 where
+  pub slot : entry.slot < 65536
+  pub ident : entry.ident < 256 ^ 4
+  pub few : length entry.submodules.items ≤ 4
+  pub submodules : AllByRecursion (λ part. (part.subslot < 65536) × (part.ident < 256 ^ 4)) entry.submodules.items

@@ -1,5 +1,6 @@
 //! I&M0 to I&M4, and the records that list modules or have the data of a submodule, read back.
 ghost use Rattle.std.specs.Prelude.{◌≡◌, ◌≤◌, ℕ, true, Some, length};
+ghost use Rattle.std.specs.List.{AllByRecursion};
 ghost use Rattle.pn_values.specs.declared.identity.Identity.{Identity};
 ghost use Rattle.pn_values.specs.declared.real.Real.{Real};
 ghost use Rattle.pn_values.specs.declared.settings.Settings.{Settings};
@@ -11,6 +12,7 @@ ghost use Rattle.block_codec.specs.Block.{block_bytes};
 ghost use Rattle.module_diff.specs.declared.expected.Expected.{Expected};
 ghost use Rattle.im_records.specs.Records.{is_real, record_of};
 ghost use Rattle.records.specs.declared.reads.listing.Level.{Level};
+ghost use Rattle.records.specs.declared.reads.listing.Level.TheVariants.{Device};
 ghost use Rattle.records.specs.reads.Listing.{api_bytes, identification_bytes, plugged_of};
 ghost use Rattle.cyclic_data.specs.declared.place.PlaceKind.TheVariants.{Data};
 ghost use Rattle.cyclic_data.specs.Image.{Cell, cell_at};
@@ -18,7 +20,7 @@ ghost use Rattle.cyclic_data.specs.exchange.Cyclic.{Cyclic};
 ghost use Rattle.device_records.specs.Elements.{input_of, output_of};
 ghost use Rattle.device_records.specs.Expected.{expected_at, expected_bytes};
 ghost use Rattle.device_records.specs.Found.{found_bytes, found_of};
-ghost use Rattle.fields_law.specs.Modules.{IsListing, IsSizedListing};
+ghost use Rattle.fields_law.specs.Modules.{IsListing, IsPluggedList, IsPluggedModule, IsSizedListing};
 ghost use Rattle.fields_law.specs.Records.{HasIm0, HasInput, HasOutput, HasText, IsApiData, IsSizedIdentity};
 
 use block_codec::blocks_are_read;
@@ -55,6 +57,9 @@ pub fn lists_are_read_back()
         → IsListing (identification_bytes 0x0013 (plugged_of real level slot subslot)) 0x0013 1 (plugged_of real level slot subslot).modules }
     ensures found { (expected : Expected) (real : Real) → IsSizedListing (found_of expected real).modules
         → IsListing (found_bytes expected real) 0x0013 1 (found_of expected real).modules }
+    // RealIdentificationData of the device lists each module that is plugged, with all its submodules.
+    ensures device { (real : Real) (slot subslot : ℕ) → AllByRecursion IsPluggedModule real.modules.items → length real.modules.items ≤ 16
+        → IsPluggedList (identification_bytes 0x0013 (plugged_of real Device slot subslot)) real.modules.items }
     // APIData has API 0 alone.
     ensures apis { IsApiData api_bytes }
 {

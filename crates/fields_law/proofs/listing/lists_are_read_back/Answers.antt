@@ -4,6 +4,7 @@ use Rattle.device_records.specs.Expected.{expected_at}
 use Rattle.device_records.specs.Found.{found_of}
 use Rattle.records.specs.reads.Listing.{plugged_of}
 use Rattle.fields_law.proofs.ReadingModules.{filter_device_read, filter_submodules_read, identification_read}
+use Rattle.fields_law.proofs.ReadingPlugged.{plugged_is}
 use Rattle.fields_law.proofs.ReadingRecords.{api_is}
 use Rattle.fields_law.proofs.listing.lists_are_read_back.Goals as goal
 
@@ -17,5 +18,6 @@ returns c =
           identification_read (expected_at expected level slot subslot).modules sized long 0x0012 (omega arith);
       plugged = λ real level slot subslot sized. identification_read (plugged_of real level slot subslot).modules sized long 0x0013 (omega arith);
       found = λ expected real sized. identification_read (found_of expected real).modules sized long 0x0013 (omega arith);
+      device = λ real slot subslot all few. plugged_is slot subslot long real all few;
       apis = api_is;
     }
