@@ -1,5 +1,5 @@
 -- Alarms, read at their places.
-use Rattle.std.proofs.Common.{◌≡◌, ◌+◌, ◌^◌, ◌<◌, ◌≤◌, ◌++◌, ℕ, Bool, true, false, List, [], ◌∷◌, drop, length, refl, sym, ap, ◌∙◌, subst, if◌then◌else◌, arith}
+use Rattle.std.proofs.Common.{◌≡◌, ◌+◌, ◌^◌, ◌<◌, ◌≤◌, ◌++◌, ℕ, Bool, true, false, List, [], ◌∷◌, length, refl, sym, ap, ◌∙◌, subst, if◌then◌else◌, arith}
 use Rattle.std.proofs.lemmas.List.{append-nil}
 use Rattle.byteorder.specs.Endian.{big_bytes}
 use Rattle.byteorder.specs.Numbers.{big_number-reads_back}
@@ -14,10 +14,9 @@ use Rattle.block_codec.specs.Writable.{IsAck}
 use Rattle.pn_alarms.specs.declared.pdu.Header.{Header}
 use Rattle.pn_alarms.specs.declared.pdu.PduType.{PduType}
 use Rattle.pn_alarms.specs.declared.pdu.PduType.TheVariants.{Data, Nack, Ack, Error}
-use Rattle.pn_alarms.specs.Format.{flags_of, frame_id_of, header as pdu_header, kind as pdu_kind, octet_of, pdu as pdu_format, pdu_bytes}
+use Rattle.pn_alarms.specs.Format.{flags_of, header as pdu_header, kind as pdu_kind, octet_of, pdu as pdu_format, pdu_bytes}
 use Rattle.pn_alarms.specs.Sender.{notice_of}
-use Rattle.diagnosis.specs.Notices.{properties_of}
-use Rattle.diagnosis.specs.Queue.{alarm_of, kind_type, queued_specifier}
+use Rattle.diagnosis.specs.Queue.{alarm_of, kind_type}
 use Rattle.diagnosis.specs.Sendable.{IsHeader}
 use Rattle.diagnosis.specs.declared.diagnosis.Change.{Change}
 use Rattle.diagnosis.specs.declared.module_change.ModuleChange.{ModuleChange}
@@ -29,10 +28,10 @@ use Rattle.diagnosis.specs.declared.queue.QueuedAlarm.{QueuedAlarm}
 use Rattle.diagnosis.specs.declared.reports.priority.Priority.{Priority}
 use Rattle.diagnosis.specs.declared.reports.priority.Priority.TheVariants.{High, Low}
 use Rattle.diagnosis.specs.reports.Priority.{frame_id_at}
-use Rattle.diagnosis.specs.reports.Report.{ack_bytes, block_priority, front, low_ack, payload, report, report_fields}
+use Rattle.diagnosis.specs.reports.Report.{block_priority, front, low_ack, payload, report, report_fields}
 use Rattle.relations.specs.exchange.Frames.{Notifies, Reports, body_of}
 use Rattle.controller_messages.specs.Sent.{ack_pdu}
-use Rattle.fields_law.specs.Alarm.{IsAlarmAck, IsCarried, IsDiagnosisAlarm, IsModuleAlarm, IsNotification, IsPdu, IsProcessAlarm, IsSizedChange, IsSizedPlug, IsSizedQueued, ack_type, add_flags, alarm_id, change_specifier, change_type, pdu_type}
+use Rattle.fields_law.specs.Alarm.{IsAlarmAck, IsCarried, IsDiagnosisAlarm, IsModuleAlarm, IsPdu, IsProcessAlarm, IsSizedChange, IsSizedPlug, IsSizedQueued, ack_type, add_flags, alarm_id, change_specifier, change_type, pdu_type}
 
 -- ---- PDUs
 

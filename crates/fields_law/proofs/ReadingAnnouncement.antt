@@ -1,5 +1,5 @@
 -- The announcement of a station, read at its places.
-use Rattle.std.proofs.Common.{◌≡◌, ◌+◌, ◌-◌, ◌*◌, ◌%◌, ◌==◌, ◌<◌, ◌≤◌, ◌++◌, ℕ, Bool, true, false, List, [], ◌∷◌, drop, length, map, take, replicate, Option, Some, None, refl, sym, ap, ◌∙◌, subst, append_assoc, if◌then◌else◌, arith}
+use Rattle.std.proofs.Common.{◌≡◌, ◌+◌, ◌-◌, ◌*◌, ◌%◌, ◌==◌, ◌<◌, ◌++◌, ℕ, Bool, true, false, List, [], ◌∷◌, drop, length, map, take, replicate, Option, Some, None, refl, sym, ap, ◌∙◌, subst, append_assoc, if◌then◌else◌, arith}
 use Rattle.std.specs.List.{AllByRecursion}
 use Rattle.std.proofs.lemmas.List.{append-nil, length-append, length-replicate}
 use Rattle.byteorder.specs.Endian.{big_bytes}
@@ -7,13 +7,12 @@ use Rattle.byteorder.specs.Numbers.{big_number-reads_back}
 use Rattle.pn_values.specs.IpSuite.{is_zero}
 use Rattle.frame_codec.specs.Frame.{mac, tag_and_type}
 use Rattle.lldp.specs.declared.station.Link.{Link}
-use Rattle.lldp.specs.Announcement.{IsSayable, Station, address_tlvs, announced, announcement, chassis_of, header_of, link_tlvs, padded, port_name, port_status}
+use Rattle.lldp.specs.Announcement.{IsSayable, Station, address_tlvs, announced, announcement, chassis_of, header_of, link_tlvs, port_name, port_status}
 use Rattle.lldp.specs.Frame.{link as frame_head, nearest}
 use Rattle.lldp.specs.Message.{message, write_tlvs}
 use Rattle.lldp.specs.Tlv.{Id, Tlv, chassis_mac, id, id_octets, lifetime, tlv, tlv_of, typed}
-use Rattle.end_laws.specs.log_data.Reading.{number_at, octets_at}
 use Rattle.fields_law.specs.Announcement.{AreTlvs, IsAnnouncement, address_told, chassis_id, link_told, told_by}
-use Rattle.fields_law.proofs.ReadingPlaces.{at_place, front_of, joined, joined_onto, number_is, octets_are, total}
+use Rattle.fields_law.proofs.ReadingPlaces.{at_place, front_of, joined, joined_onto, number_is, octets_are}
 
 -- ---- TLVs
 

@@ -1,10 +1,9 @@
 -- The answer to a Connect, read at its places.
-use Rattle.std.proofs.Common.{◌≡◌, ◌+◌, ◌<◌, ◌++◌, ℕ, suc, Bool, true, false, List, [], ◌∷◌, drop, length, take, refl, sym, ap, ◌∙◌, subst, if◌then◌else◌, arith}
+use Rattle.std.proofs.Common.{◌≡◌, ◌+◌, ◌<◌, ◌++◌, ℕ, Bool, true, false, List, [], ◌∷◌, drop, length, take, refl, sym, ap, ◌∙◌, subst, if◌then◌else◌, arith}
 use Rattle.std.proofs.lemmas.List.{append-nil}
 use Rattle.byteorder.specs.Endian.{big_bytes}
 use Rattle.byteorder.specs.Numbers.{big_number-reads_back}
 use Rattle.pn_values.specs.declared.identity.Identity.{Identity}
-use Rattle.pn_values.specs.declared.mac.Mac.{Mac}
 use Rattle.wire.specs.blocks.Fields.{body, number_bytes, octet_bytes, version}
 use Rattle.connect_blocks.specs.declared.ar_block.ArBlockRes.{ArBlockRes}
 use Rattle.connect_blocks.specs.declared.iocr.RtClass.{RtClass}
@@ -17,12 +16,12 @@ use Rattle.block_codec.specs.Kinds.{number_of, type_of}
 use Rattle.connects.specs.declared.requests.parts.Iocr.{Iocr}
 use Rattle.connects.specs.answers.AlarmRelation.{alarm_relation}
 use Rattle.connects.specs.requests.Request.{Request, chosen_id}
-use Rattle.relations.specs.Connect.{alarm_answer, ar_answer, connect_blocks, input_answer, iocr_answer, iocrs_answer, output_answer}
+use Rattle.relations.specs.Connect.{alarm_answer, ar_answer, connect_blocks, input_answer, iocr_answer, output_answer}
 use Rattle.relations.specs.Numbers.{endpoint_of, output_id}
 use Rattle.end_laws.specs.log_data.Reading.{octets_at}
 use Rattle.fields_law.specs.Answer.{IsAlarmAnswer, IsConnectAnswer, IsCyclicAnswer, IsRelationAnswer, IsSizedAnswer, first_id, outputs_id}
 use Rattle.fields_law.proofs.ReadingBlocks.{AreLong, block_is, headed, headed_is, header, size_in, with_size}
-use Rattle.fields_law.proofs.ReadingPlaces.{at_place, front_of, joined, joined_long, number_is, octets_are, spread, total}
+use Rattle.fields_law.proofs.ReadingPlaces.{at_place, joined, joined_long, number_is, octets_are, spread}
 
 -- ---- ARBlockRes
 

@@ -1,7 +1,7 @@
 -- Lists of modules with their submodules, read at their places.
-use Rattle.std.proofs.Common.{◌≡◌, ◌+◌, ◌*◌, ◌^◌, ◌<◌, ◌≤◌, ◌++◌, ℕ, zero, suc, List, [], ◌∷◌, drop, length, take, refl, sym, ap, ◌∙◌, subst, arith}
+use Rattle.std.proofs.Common.{◌≡◌, ◌+◌, ◌*◌, ◌<◌, ◌++◌, ℕ, zero, suc, List, [], ◌∷◌, drop, length, take, refl, sym, ap, ◌∙◌, subst, arith}
 use Rattle.std.specs.List.{AllByRecursion}
-use Rattle.std.proofs.lemmas.List.{append-nil, length-append, length-drop, length-take-le, take-append-drop}
+use Rattle.std.proofs.lemmas.List.{append-nil, length-drop, length-take-le}
 use Rattle.byteorder.specs.Endian.{big_bytes}
 use Rattle.byteorder.specs.Numbers.{big_number-reads_back}
 use Rattle.wire.specs.Codec.{Codec}
@@ -24,7 +24,7 @@ use Rattle.block_codec.specs.declared.block.Block.TheVariants as is
 use Rattle.block_codec.specs.Block.{block, block_bytes, block_size, body_of, fields_of}
 use Rattle.block_codec.specs.Kinds.{number_of, type_of}
 use Rattle.records.specs.reads.Listing.{identification_bytes}
-use Rattle.end_laws.specs.log_data.Reading.{number_at, octets_at}
+use Rattle.end_laws.specs.log_data.Reading.{number_at}
 use Rattle.fields_law.specs.Modules.{AreDiffModules, AreDiffSubmodules, AreListedModules, AreListedSubmodules, IsListing, IsModuleDiff, IsSizedDiff, IsSizedDiffModule, IsSizedDiffSubmodule, IsSizedListed, IsSizedListedPart, IsSizedListing, diff_count, listed_count}
 use Rattle.fields_law.proofs.ReadingBlocks.{AreLong, block_is, headed, headed_is, headed_long, size_in, with_size}
 use Rattle.fields_law.proofs.ReadingPlaces.{past}

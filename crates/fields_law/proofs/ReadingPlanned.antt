@@ -1,11 +1,9 @@
 -- The Connect of a plan, read at its places.
-use Rattle.std.proofs.Common.{◌≡◌, ◌+◌, ◌*◌, ◌<◌, ◌≤◌, ◌++◌, ℕ, List, [], ◌∷◌, length, map, max, Option, Some, None, refl, sym, ap, ◌∙◌, subst, arith}
-use Rattle.std.specs.Prelude.{unwrap_or}
+use Rattle.std.proofs.Common.{◌≡◌, ◌+◌, ◌<◌, ◌≤◌, ◌++◌, ℕ, List, [], ◌∷◌, length, map, Option, Some, None, refl, sym, ap, ◌∙◌, subst, arith}
 use Rattle.std.specs.List.{AllByRecursion}
 use Rattle.std.proofs.lemmas.List.Sums.{sum_by-cons}
 use Rattle.pn_values.specs.declared.real.RealModule.{RealModule}
 use Rattle.pn_values.specs.declared.real.RealSubmodule.{RealSubmodule}
-use Rattle.connect_blocks.specs.declared.io_object.IoObject.{IoObject}
 use Rattle.connect_blocks.specs.declared.iocr.IocrType.{IocrType}
 use Rattle.connect_blocks.specs.declared.iocr.IocrType.TheVariants.{Input, Output}
 use Rattle.cyclic_data.specs.declared.place.ExpectedData.{ExpectedData}
@@ -16,9 +14,9 @@ use Rattle.cyclic_data.specs.Places.{taken}
 use Rattle.block_codec.specs.declared.block.Block.TheVariants as is
 use Rattle.block_codec.specs.Block.{block_bytes}
 use Rattle.plans.specs.declared.parts.Parts.{Parts}
-use Rattle.plans.specs.Connect.{alarm_block, ar_block, bytes_of, connect_of, expected_block, expected_blocks, iocr_block}
+use Rattle.plans.specs.Connect.{bytes_of, connect_of, expected_block, expected_blocks}
 use Rattle.plans.specs.Packed.{frame_octets, object_of, octets_in, octets_of, packed, place_at}
-use Rattle.plans.specs.Parts.{AreParts, data_in_slot, data_of, io_data_of}
+use Rattle.plans.specs.Parts.{data_in_slot, data_of}
 use Rattle.plans.specs.Plan.{IsPlan}
 use Rattle.fields_law.specs.Blocks.{after_block, first_block}
 use Rattle.fields_law.specs.Connect.{IsAlarmRequest, IsCyclicRequest, IsExpectedRequest, IsRelationRequest, IsSizedAlarm, IsSizedCyclic, IsSizedModule, IsSizedPlace, IsSizedRelation, IsSizedSubmodule}

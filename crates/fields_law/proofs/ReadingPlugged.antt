@@ -1,5 +1,5 @@
 -- RealIdentificationData of the whole device, read at its places.
-use Rattle.std.proofs.Common.{◌≡◌, ◌+◌, ◌*◌, ◌^◌, ◌<◌, ◌≤◌, ◌++◌, ℕ, List, [], ◌∷◌, drop, length, take, refl, sym, ap, ◌∙◌, subst, arith}
+use Rattle.std.proofs.Common.{◌≡◌, ◌+◌, ◌*◌, ◌^◌, ◌<◌, ◌≤◌, ◌++◌, ℕ, List, [], ◌∷◌, drop, length, take, refl, ap, ◌∙◌, subst, arith}
 use Rattle.std.specs.List.{AllByRecursion}
 use Rattle.std.proofs.lemmas.List.{length-append}
 use Rattle.pn_values.specs.declared.real.Real.{Real}
@@ -9,7 +9,7 @@ use Rattle.record_blocks.specs.declared.filter_data.FilterModule.{FilterModule}
 use Rattle.record_blocks.specs.declared.filter_data.FilterSubmodule.{FilterSubmodule}
 use Rattle.records.specs.declared.reads.listing.Level.TheVariants.{Device}
 use Rattle.records.specs.reads.Listing.{identification_bytes, modules_at, parts_at, plugged_of, submodules_at}
-use Rattle.fields_law.specs.Modules.{AreListedModules, AreListedSubmodules, ArePlugged, ArePluggedParts, IsListing, IsPluggedList, IsPluggedModule, IsSizedListed, IsSizedListedPart, IsSizedListing, listed_count}
+use Rattle.fields_law.specs.Modules.{AreListedModules, AreListedSubmodules, ArePlugged, ArePluggedParts, IsPluggedList, IsPluggedModule, IsSizedListed, IsSizedListedPart, IsSizedListing, listed_count}
 use Rattle.fields_law.proofs.ReadingBlocks.{AreLong}
 use Rattle.fields_law.proofs.ReadingModules.{identification_read}
 

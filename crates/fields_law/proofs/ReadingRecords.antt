@@ -22,11 +22,10 @@ use Rattle.records.specs.reads.Listing.{api_bytes}
 use Rattle.cyclic_data.specs.declared.place.PlaceKind.TheVariants.{Data, Iocs}
 use Rattle.cyclic_data.specs.Image.{Cell, cell_at}
 use Rattle.cyclic_data.specs.exchange.Cyclic.{Cyclic}
-use Rattle.device_records.specs.Elements.{block_of, input_element, input_of, iocs_in, output_element, output_of, substitute}
-use Rattle.fields_law.specs.Port.{IsBlock}
-use Rattle.fields_law.specs.Records.{HasIm0, HasInput, HasOutput, HasText, IsApiData, IsIm0, IsInputElement, IsOutputElement, IsSizedIdentity, IsSubstitute, IsText, iocs_of, status_or}
+use Rattle.device_records.specs.Elements.{input_element, input_of, iocs_in, output_element, output_of, substitute}
+use Rattle.fields_law.specs.Records.{HasIm0, HasInput, HasOutput, HasText, IsApiData, IsIm0, IsInputElement, IsOutputElement, IsSizedIdentity, IsSubstitute, IsText, status_or}
 use Rattle.fields_law.proofs.ReadingBlocks.{AreLong, block_is, headed, headed_is, headed_long, header, size_in, with_size}
-use Rattle.fields_law.proofs.ReadingPlaces.{at_place, front_of, joined, joined_long, number_is, octets_are, total}
+use Rattle.fields_law.proofs.ReadingPlaces.{at_place, joined, joined_long, number_is, octets_are}
 
 -- ---- I&M0
 

@@ -1,5 +1,5 @@
 -- The blocks of the answer to a Connect as a reader finds them (IEC 61158-6-10, 5.2.4.2, 5.2.4.4, 5.2.4.8).
-use Rattle.std.specs.Prelude.{◌≡◌, ◌+◌, ◌<◌, ℕ, Bool, List, drop, length, if◌then◌else◌}
+use Rattle.std.specs.Prelude.{◌≡◌, ◌+◌, ◌<◌, ℕ, List, drop, length, if◌then◌else◌}
 use Rattle.pn_values.specs.declared.mac.Mac.{Mac}
 use Rattle.connect_blocks.specs.declared.iocr.RtClass.{RtClass}
 use Rattle.connect_blocks.specs.declared.iocr.RtClass.TheVariants.{Class1, Class2}

@@ -1,5 +1,5 @@
 -- The Connect of a plan as a reader finds it: its blocks one after another, with the numbers that the plan has (IEC 61158-6-10, 5.2.4).
-use Rattle.std.specs.Prelude.{◌≡◌, ◌^◌, ◌<◌, ℕ, List, [], ◌∷◌, length, map, max, replicate}
+use Rattle.std.specs.Prelude.{◌≡◌, ℕ, List, [], ◌∷◌, length, map, max, replicate}
 use Rattle.std.specs.List.{AllByRecursion}
 use Rattle.pn_values.specs.declared.real.RealModule.{RealModule}
 use Rattle.connect_blocks.specs.declared.alarm_cr.AlarmCrBlockReq.{AlarmCrBlockReq}

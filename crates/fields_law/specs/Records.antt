@@ -1,7 +1,7 @@
 -- I&M0 to I&M4, APIData, and the records of cyclic data as a reader finds them (IEC 61158-6-10, 5.2.3).
-use Rattle.std.specs.Prelude.{◌≡◌, ◌+◌, ◌*◌, ◌<◌, ◌≤◌, ℕ, List, [], ◌∷◌, drop, length, replicate, Option, Some, None}
+use Rattle.std.specs.Prelude.{◌≡◌, ◌+◌, ◌<◌, ℕ, List, [], ◌∷◌, drop, length, replicate, Option, Some, None}
 use Rattle.pn_values.specs.declared.identity.Identity.{Identity}
-use Rattle.cyclic_data.specs.declared.place.PlaceKind.TheVariants.{Data, Iocs}
+use Rattle.cyclic_data.specs.declared.place.PlaceKind.TheVariants.{Iocs}
 use Rattle.cyclic_data.specs.Image.{Cell, Shown, cell_at}
 use Rattle.cyclic_data.specs.exchange.Cyclic.{Cyclic}
 use Rattle.end_laws.specs.log_data.Reading.{number_at, octets_at}
