@@ -13,3 +13,5 @@ pub mod ReadingAlarm
 pub mod ReadingRecords
 pub mod ReadingAnnouncement
 pub mod ReadingPlugged
+pub mod ReadingCalls
+pub mod ReadingStates

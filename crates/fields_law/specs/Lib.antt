@@ -14,3 +14,4 @@ pub mod Answer
 pub mod Alarm
 pub mod Records
 pub mod Announcement
+pub mod Calls

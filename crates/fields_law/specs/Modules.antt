@@ -1,5 +1,5 @@
 -- Lists of modules, each followed by its submodules, as a reader finds them (IEC 61158-6-10, 5.2.3 and 5.2.4.11).
-use Rattle.std.specs.Prelude.{◌≡◌, ◌+◌, ◌*◌, ◌^◌, ◌<◌, ◌≤◌, ℕ, List, [], ◌∷◌, drop, length, take}
+use Rattle.std.specs.Prelude.{◌≡◌, ◌+◌, ◌*◌, ◌^◌, ◌==◌, ◌<◌, ◌≤◌, ℕ, List, [], ◌∷◌, drop, length, take, Option, Some, None, if◌then◌else◌}
 use Rattle.std.specs.List.{AllByRecursion}
 use Rattle.pn_values.specs.declared.real.RealModule.{RealModule}
 use Rattle.pn_values.specs.declared.real.RealSubmodule.{RealSubmodule}
@@ -62,6 +62,33 @@ pub record IsSizedDiff (rows : Listed DiffModule DiffSubmodule) : Type 0 where
   pub submodules : AllByRecursion IsSizedDiffSubmodule rows.submodules
   pub few_submodules : length rows.submodules ≤ 256
   pub counted : diff_count rows.modules ≡ length rows.submodules
+
+-- The module in a slot, and the submodule in a subslot of a module, if one is plugged there.
+abbrev pub module_at : ℕ → List RealModule → Option RealModule
+module_at slot [] = None
+module_at slot (entry ∷ entries) = if entry.slot == slot then Some entry else module_at slot entries
+
+-- The submodule in a subslot.
+abbrev pub submodule_at : ℕ → List RealSubmodule → Option RealSubmodule
+submodule_at subslot [] = None
+submodule_at subslot (part ∷ parts) = if part.subslot == subslot then Some part else submodule_at subslot parts
+
+-- The submodules of a module, none without a module.
+abbrev pub parts_of : Option RealModule → List RealSubmodule
+parts_of None = []
+parts_of (Some entry) = entry.submodules.items
+
+-- What a row says of a module: the ident number that is plugged, 0 if none is; and ModuleState: 0 (no module), 2 (proper module) if it is the expected
+-- one, else 1 (wrong module).
+abbrev pub SaysModule : Option RealModule → ℕ → DiffModule → Type 0
+SaysModule None expected row = (row.module_ident_number ≡ 0) × (row.module_state ≡ 0)
+SaysModule (Some entry) expected row = (row.module_ident_number ≡ entry.ident) × (row.module_state ≡ (if entry.ident == expected then 2 else 1))
+
+-- What a row says of a submodule: the ident number that is plugged, 0 if none is; and SubmoduleState: FormatIndicator (bit 15) 1, and IdentInfo (bits 11
+-- to 14) 3 (no submodule), or 2 (wrong submodule).
+abbrev pub SaysSubmodule : Option RealSubmodule → DiffSubmodule → Type 0
+SaysSubmodule None row = (row.submodule_ident_number ≡ 0) × (row.submodule_state ≡ 2 ^ 15 + 3 * 2 ^ 11)
+SaysSubmodule (Some part) row = (row.submodule_ident_number ≡ part.ident) × (row.submodule_state ≡ 2 ^ 15 + 2 * 2 ^ 11)
 
 -- ---- I&M0FilterData, ExpectedIdentificationData and RealIdentificationData (5.2.3)
 

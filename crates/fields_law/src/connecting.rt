@@ -5,11 +5,13 @@ ghost use Rattle.pn_values.specs.declared.real.RealModule.{RealModule};
 ghost use Rattle.wire.specs.blocks.modules.Lists.{Listed};
 ghost use Rattle.connect_blocks.specs.declared.alarm_cr.AlarmCrBlockReq.{AlarmCrBlockReq};
 ghost use Rattle.connect_blocks.specs.declared.ar_block.ArBlockReq.{ArBlockReq};
+ghost use Rattle.connect_blocks.specs.declared.expected.ExpectedSubmodule.{ExpectedSubmodule};
 ghost use Rattle.connect_blocks.specs.declared.iocr.IocrBlockReq.{IocrBlockReq};
 ghost use Rattle.connect_blocks.specs.declared.module_diff.DiffModule.{DiffModule};
 ghost use Rattle.connect_blocks.specs.declared.module_diff.DiffSubmodule.{DiffSubmodule};
 ghost use Rattle.block_codec.specs.declared.block.Block.TheVariants as is;
 ghost use Rattle.block_codec.specs.Block.{block_bytes};
+ghost use Rattle.module_diff.specs.Diff.{Wanted, module_row, submodule_row};
 ghost use Rattle.cyclic_data.specs.Layout.{Table};
 ghost use Rattle.connects.specs.requests.Request.{Request, alarm_of, ar_of, iocr_of};
 ghost use Rattle.plans.specs.declared.parts.Parts.{Parts};
@@ -20,7 +22,7 @@ ghost use Rattle.fields_law.specs.Answer.{IsConnectAnswer, IsSizedAnswer};
 ghost use Rattle.fields_law.specs.Connect.{IsAlarmRequest, IsCyclicRequest, IsExpectedRequest, IsRelationRequest, IsSizedAlarm, IsSizedCyclic};
 ghost use Rattle.fields_law.specs.Connect.{IsSizedModule, IsSizedRelation};
 ghost use Rattle.fields_law.specs.Kept.{IsKeptAlarm, IsKeptCyclic, IsKeptRelation};
-ghost use Rattle.fields_law.specs.Modules.{IsModuleDiff, IsSizedDiff};
+ghost use Rattle.fields_law.specs.Modules.{IsModuleDiff, IsSizedDiff, SaysModule, SaysSubmodule, module_at, parts_of, submodule_at};
 ghost use Rattle.fields_law.specs.Planned.{IsConnect, IsSizedPlan};
 
 use block_codec::blocks_are_read;
@@ -52,6 +54,11 @@ pub fn connect_answers_are_read_back()
     // A ModuleDiffBlock lists modules, each with its submodules and their states.
     ensures differing { (rows : Listed DiffModule DiffSubmodule) → IsSizedDiff rows
         → IsModuleDiff (block_bytes (is.ModuleDiffBlock (record { api = 0; modules = rows }))) rows }
+    // The row of a module says which one is plugged in its slot, and the row of a submodule which one in its subslot.
+    ensures module_says { (real : List RealModule) (wanted : Wanted)
+        → SaysModule (module_at wanted.entry.slot_number real) wanted.entry.module_ident_number (module_row real wanted) }
+    ensures submodule_says { (real : List RealModule) (slot : ℕ) (part : ExpectedSubmodule)
+        → SaysSubmodule (submodule_at part.subslot_number (parts_of (module_at slot real))) (submodule_row real slot part) }
 {
     blocks_are_read();
 }

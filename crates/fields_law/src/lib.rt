@@ -6,12 +6,14 @@
 
 mod alarms;
 mod announcing;
+mod calling;
 mod connecting;
 mod listing;
 mod reading;
 
 pub use alarms::alarms_are_read_back;
 pub use announcing::announcements_are_read_back;
+pub use calling::calls_are_read_back;
 pub use connecting::{connect_answers_are_read_back, connects_are_read_back};
 pub use listing::{elements_are_read_back, lists_are_read_back, maintenance_is_read_back};
 pub use reading::{answers_are_read_back, records_are_read_back};
