@@ -33,7 +33,7 @@ module _ (uuid : List ℕ) (session sequence instruction properties : ℕ) (long
   control_parts =
       big_bytes 2 0 ∷ uuid ∷ big_bytes 2 session ∷ big_bytes 2 sequence ∷ big_bytes 2 instruction ∷ big_bytes 2 properties ∷ []
 
-  abbrev pub control_inside : List ℕ
+  abbrev control_inside : List ℕ
   control_inside = joined control_parts []
 
   control_long : length control_inside ≡ 26
@@ -116,19 +116,21 @@ module _ (long : AreLong) (asked : ControlBlock) (sized : IsSizedControl asked) 
 
 -- ---- after a plug
 
-plug_written : (type : ℕ) (asked : PlugControlBlock) → (plug_control type).write asked []
-    ≡ with_size type 28 (control_inside asked.ar_uuid asked.session_key asked.alarm_sequence_number asked.control_command asked.control_block_properties)
+abbrev plug_inside : PlugControlBlock → List ℕ
+plug_inside asked = joined (big_bytes 2 0 ∷ asked.ar_uuid ∷ big_bytes 2 asked.session_key ∷ big_bytes 2 asked.alarm_sequence_number
+    ∷ big_bytes 2 asked.control_command ∷ big_bytes 2 asked.control_block_properties ∷ []) []
+
+plug_written : (type : ℕ) (asked : PlugControlBlock) → (plug_control type).write asked [] ≡ with_size type 28 (plug_inside asked)
 unfolding plug_control number_bytes octet_bytes zeros
 plug_written type asked = refl
 
 pub plug_is : (type : ℕ) (asked : PlugControlBlock) → type < 65536 → IsSizedPlugControl asked → IsPlugControl ((plug_control type).write asked []) type asked
 plug_is type asked fits sized =
-    let inside = control_inside asked.ar_uuid asked.session_key asked.alarm_sequence_number asked.control_command asked.control_block_properties in
-    let few : length inside ≡ 26 =
+    let few : length (plug_inside asked) ≡ 26 =
     control_long asked.ar_uuid asked.session_key asked.alarm_sequence_number asked.control_command asked.control_block_properties sized.ar_uuid
     sized.session_key sized.sequence sized.command sized.properties in
-    let same : 28 ≡ 2 + length inside = omega (arith, few) in
-    subst (λ (xs : List ℕ). IsPlugControl xs type asked) (sym (plug_written type asked ∙ ap (λ (n : ℕ). with_size type n inside) same))
+    let same : 28 ≡ 2 + length (plug_inside asked) = omega (arith, few) in
+    subst (λ (xs : List ℕ). IsPlugControl xs type asked) (sym (plug_written type asked ∙ ap (λ (n : ℕ). with_size type n (plug_inside asked)) same))
     (control_is asked.ar_uuid asked.session_key asked.alarm_sequence_number asked.control_command asked.control_block_properties sized.ar_uuid
     sized.session_key sized.sequence sized.command sized.properties type fits)
 

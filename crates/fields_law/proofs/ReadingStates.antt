@@ -17,12 +17,14 @@ module_same slot (entry ∷ entries) = ap (λ (found : Option RealModule). if en
 part_same : (subslot : ℕ) (parts : List RealSubmodule)
     → part_ident parts subslot ≡ option_map (λ (part : RealSubmodule). part.ident) (submodule_at subslot parts)
 part_same subslot [] = refl
-part_same subslot (part ∷ parts) = by_test (part.subslot == subslot)
+part_same subslot (part ∷ parts) = by_test (part.subslot == subslot) (part_same subslot parts)
   where
-    by_test : (b : Bool) → option_map (λ (one : RealSubmodule). one.ident) (if b then Some part else find (λ (one : RealSubmodule). one.subslot == subslot) parts)
+    by_test : (b : Bool)
+        → part_ident parts subslot ≡ option_map (λ (one : RealSubmodule). one.ident) (submodule_at subslot parts)
+        → option_map (λ (one : RealSubmodule). one.ident) (if b then Some part else find (λ (one : RealSubmodule). one.subslot == subslot) parts)
         ≡ option_map (λ (one : RealSubmodule). one.ident) (if b then Some part else submodule_at subslot parts)
-    by_test true = refl
-    by_test false = part_same subslot parts
+    by_test true others = refl
+    by_test false others = others
 
 module_by : (entry : ExpectedModule) (count : ℕ) (found : Option RealModule)
     → SaysModule found entry.module_ident_number (row_with entry (option_map (λ (one : RealModule). one.ident) found) count)
