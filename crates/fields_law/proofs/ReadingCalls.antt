@@ -1,5 +1,5 @@
 -- The blocks of Control, Release, Read and Write, read at their places.
-use Rattle.std.proofs.Common.{◌≡◌, ◌+◌, ◌^◌, ◌<◌, ◌≤◌, ◌++◌, ℕ, List, [], ◌∷◌, drop, length, take, replicate, refl, sym, ap, ◌∙◌, subst, arith}
+use Rattle.std.proofs.Common.{◌≡◌, ◌+◌, ◌<◌, ◌++◌, ℕ, List, [], ◌∷◌, drop, length, take, replicate, refl, sym, ap, ◌∙◌, subst, arith}
 use Rattle.std.proofs.lemmas.List.{append-nil, length-append}
 use Rattle.byteorder.specs.Endian.{big_bytes, big_number}
 use Rattle.byteorder.specs.Numbers.{big_number-reads_back}
@@ -23,7 +23,7 @@ use Rattle.block_codec.specs.Kinds.{number_of, type_of}
 use Rattle.block_codec.specs.Writable.{IsControl as IsSizedControl, IsRecord as IsSizedRecord, IsWritten}
 use Rattle.fields_law.specs.Calls.{IsControl, IsControlOf, IsPlugControl, IsReadAnswer, IsReadRequest, IsRecordBlock, IsSizedPlugControl, IsWriteAnswer, IsWriteRequest}
 use Rattle.fields_law.proofs.ReadingBlocks.{AreLong, block_is, headed, headed_is, headed_long, header, size_in, with_size}
-use Rattle.fields_law.proofs.ReadingPlaces.{at_place, beyond, joined, joined_long, number_is, octets_are, total}
+use Rattle.fields_law.proofs.ReadingPlaces.{at_place, beyond, joined, joined_long, number_is, octets_are}
 
 -- ---- Control and Release
 

@@ -1,12 +1,12 @@
 -- What the rows of a ModuleDiffBlock say of modules and submodules.
-use Rattle.std.proofs.Common.{◌≡◌, ◌+◌, ◌*◌, ◌^◌, ◌==◌, ℕ, Bool, true, false, List, [], ◌∷◌, length, Option, Some, None, option_map, refl, sym, ap, ◌∙◌, subst, if◌then◌else◌}
+use Rattle.std.proofs.Common.{◌≡◌, ◌==◌, ℕ, Bool, true, false, List, [], ◌∷◌, length, Option, Some, None, option_map, refl, sym, ap, ◌∙◌, subst, if◌then◌else◌}
 use Rattle.std.specs.Prelude.{find}
 use Rattle.pn_values.specs.declared.real.RealModule.{RealModule}
 use Rattle.pn_values.specs.declared.real.RealSubmodule.{RealSubmodule}
 use Rattle.connect_blocks.specs.declared.expected.ExpectedModule.{ExpectedModule}
 use Rattle.connect_blocks.specs.declared.expected.ExpectedSubmodule.{ExpectedSubmodule}
 use Rattle.module_diff.specs.Diff.{Wanted, listed, module_row, row_with, submodule_row, submodule_row_with}
-use Rattle.module_diff.specs.Plugged.{module_in, module_ident, part_ident, part_ident_of, submodule_ident}
+use Rattle.module_diff.specs.Plugged.{module_in, part_ident, part_ident_of}
 use Rattle.fields_law.specs.Modules.{SaysModule, SaysSubmodule, module_at, parts_of, submodule_at}
 
 -- the module in a slot is the one that the comparison finds
