@@ -13,14 +13,13 @@ Needs Scapy (Debian: apt-get install python3-scapy; 2.5.0 was used).
 import os
 import struct
 import sys
+import uuid
 
 sys.path.insert(0, os.path.join(os.path.dirname(os.path.realpath(__file__)), "..", "..", "ci"))
 from program import answer_help, refuse
 
 if __name__ == "__main__":
     answer_help(__doc__, sys.argv[1:])  # which needs no Scapy
-
-import uuid
 
 from scapy.compat import raw
 from scapy.contrib.lldp import (
