@@ -72,7 +72,7 @@ none_taken first own second cast a b = rw (a, b) (both_none first second)
 no_own : (own other : Bool) → own ≡ false → (own && other) ≡ false
 no_own own other is = ap (λ (b : Bool). b && other) is
 
--- A FrameID of DCP is none of alarms or of cyclic data.
+-- A FrameID of DCP is not one of alarms.
 no_alarm_id : (id : ℕ) → 0xFEFC ≤ id → is_alarm id ≡ true → ⊥
 no_alarm_id id least is = elim (or_cases (id == 0xFC01) (id == 0xFE01) is) [
   | inl e ↦ (let same = eqb-true id 0xFC01 e in omega (arith, least, same))

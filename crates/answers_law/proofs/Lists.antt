@@ -14,7 +14,7 @@ use Rattle.dcp_core.specs.Request.{AskedBlock}
 use Rattle.field_words.specs.Octets.{octet_at, part_at, word_at}
 use Rattle.end_laws.proofs.CyclicAccepting.{one_read}
 use Rattle.end_laws.proofs.CyclicPlaces.{two_read, word_dropped}
-use Rattle.answers_law.specs.Requests.{Block, blocks_at, pairs_at}
+use Rattle.answers_law.specs.Requests.{Block, block_in, blocks_at, pair_in, pairs_at}
 use Rattle.answers_law.proofs.Tests.{by_test, no_false}
 
 -- A block as the format has it.
@@ -35,9 +35,9 @@ some_length first more = ne_eqb (length (first ∷ more)) 0 (λ e. omega (arith,
 
 -- ---- blocks with a length
 
--- The block at the front of octets.
-abbrev pub block_at : List ℕ → Block
-block_at octets = record { option = octet_at 0 octets; suboption = octet_at 1 octets; value = part_at 4 (word_at 2 octets) octets }
+-- What a block is read as, and what follows it.
+abbrev found_as : ℕ → ℕ → List ℕ → List ℕ → Result (AskedBlock × List ℕ) DcpFault
+found_as option suboption contents behind = Ok (record { kind = kind_of option suboption; contents = contents }, behind)
 
 abbrev pub next_of : List ℕ → List ℕ
 next_of octets = drop (4 + word_at 2 octets + word_at 2 octets % 2) octets
@@ -67,7 +67,7 @@ module _ (whole : Whole DcpFault (List ℕ)) (least : ℕ)
     at_size = let a = length-drop 1 octets in let b = length-drop 1 one in omega (arith, long, a, b)
 
     raw_good : size ≤ length rest → least ≤ size
-        → (block whole).read octets ≡ Ok (record { kind = kind_of (big_number 1 octets) (big_number 1 one); contents = take size rest }, drop (length (take size rest) % 2) (drop size rest))
+        → (block whole).read octets ≡ found_as (big_number 1 octets) (big_number 1 one) (take size rest) (drop (length (take size rest) % 2) (drop size rest))
     unfolding block kind
     raw_good there enough =
         let wide = length-take-le size rest there in
@@ -113,7 +113,7 @@ module _ (whole : Whole DcpFault (List ℕ)) (least : ℕ)
         first_behind (x ∷ y ∷ l) = refl
 
     -- A block that is there is read.
-    pub block_good : least ≤ word_at 2 octets → 4 + word_at 2 octets ≤ length octets → (block whole).read octets ≡ Ok (asked_of (block_at octets), next_of octets)
+    pub block_good : least ≤ word_at 2 octets → 4 + word_at 2 octets ≤ length octets → (block whole).read octets ≡ Ok (asked_of (block_in octets), next_of octets)
     block_good enough there =
         let n = word_at 2 octets in
         let fits : size ≤ length rest = let s = size_is in let r = rest_length in omega (arith, s, r, there) in
@@ -125,10 +125,10 @@ module _ (whole : Whole DcpFault (List ℕ)) (least : ℕ)
         ∙ (ap (λ (l : List ℕ). drop (n % 2) (drop n l)) rest_is ∙ (drop-drop (n % 2) n (drop 4 octets)
         ∙ (drop-drop (n + n % 2) 4 octets ∙ ap (λ (m : ℕ). drop m octets) sum)))) in
         raw_good fits (subst (λ (m : ℕ). least ≤ m) (sym size_is) enough)
-        ∙ (ap (λ (o : ℕ). Ok (record { kind = kind_of o (big_number 1 one); contents = take size rest }, drop (length (take size rest) % 2) (drop size rest))) one_is
-        ∙ (ap (λ (s : ℕ). Ok (record { kind = kind_of (octet_at 0 octets) s; contents = take size rest }, drop (length (take size rest) % 2) (drop size rest))) other_is
-        ∙ (ap (λ (l : List ℕ). Ok (record { kind = kind_of (octet_at 0 octets) (octet_at 1 octets); contents = l }, drop (length (take size rest) % 2) (drop size rest))) value
-        ∙ ap (λ (l : List ℕ). Ok (asked_of (block_at octets), l)) behind)))
+        ∙ (ap (λ (o : ℕ). found_as o (big_number 1 one) (take size rest) (drop (length (take size rest) % 2) (drop size rest))) one_is
+        ∙ (ap (λ (s : ℕ). found_as (octet_at 0 octets) s (take size rest) (drop (length (take size rest) % 2) (drop size rest))) other_is
+        ∙ (ap (λ (l : List ℕ). found_as (octet_at 0 octets) (octet_at 1 octets) l (drop (length (take size rest) % 2) (drop size rest))) value
+        ∙ ap (λ (l : List ℕ). found_as (octet_at 0 octets) (octet_at 1 octets) (part_at 4 n octets) l) behind)))
 
     pub block_bad : (nat_le least (word_at 2 octets) && nat_le (4 + word_at 2 octets) (length octets)) ≡ false → (block whole).read octets ≡ Err fault.Block
     block_bad bad = by_test (ltb (length rest) size) (λ short. raw_short (ltb-true (length rest) size short)) (λ there. by_test (nat_le least (word_at 2 octets))
@@ -164,14 +164,14 @@ module _ (whole : Whole DcpFault (List ℕ)) (least : ℕ)
   blocks_read (suc most) (first ∷ more) =
       let octets : List ℕ = first ∷ more in
       let test : Bool = nat_le least (word_at 2 octets) && nat_le (4 + word_at 2 octets) (length octets) in
-      let found : Option (List Block) = option_map (λ blocks. block_at octets ∷ blocks) (blocks_at least most (next_of octets)) in
+      let found : Option (List Block) = option_map (λ blocks. block_in octets ∷ blocks) (blocks_at least most (next_of octets)) in
       cond-false (length octets == 0) _ _ (some_length first more) ∙ by_test test (λ good.
       let parts = and_parts (nat_le least (word_at 2 octets)) (nat_le (4 + word_at 2 octets) (length octets)) good in
       let there = leb-true (4 + word_at 2 octets) (length octets) parts.1 in
       ap (λ (r : Result (AskedBlock × List ℕ) DcpFault). r >>= λ x. read_all most fault.Block (block whole) x.1 >>= λ values. Ok (x.0 ∷ values))
       (block_good octets (omega (arith, there)) (leb-true least (word_at 2 octets) parts.0) there)
-      ∙ (ap (λ (r : Result (List AskedBlock) DcpFault). r >>= λ values. Ok (asked_of (block_at octets) ∷ values)) (blocks_read most (next_of octets))
-      ∙ (one_more (block_at octets) (blocks_at least most (next_of octets)) ∙ ap as_read (sym (cond-true test found None good)))))
+      ∙ (ap (λ (r : Result (List AskedBlock) DcpFault). r >>= λ values. Ok (asked_of (block_in octets) ∷ values)) (blocks_read most (next_of octets))
+      ∙ (one_more (block_in octets) (blocks_at least most (next_of octets)) ∙ ap as_read (sym (cond-true test found None good)))))
       (λ bad. ap (λ (r : Result (AskedBlock × List ℕ) DcpFault). r >>= λ x. read_all most fault.Block (block whole) x.1 >>= λ values. Ok (x.0 ∷ values))
       (none_read octets (omega arith) bad)
       ∙ ap as_read (sym (cond-false test found None bad)))
@@ -186,7 +186,7 @@ least_judged contents = refl
 -- ---- pairs
 
 pair_read : (octets : List ℕ) → 2 ≤ length octets
-    → pair.read octets ≡ Ok (record { kind = kind_of (big_number 1 octets) (big_number 1 (drop 1 octets)); contents = [] }, drop 1 (drop 1 octets))
+    → pair.read octets ≡ found_as (big_number 1 octets) (big_number 1 (drop 1 octets)) [] (drop 1 (drop 1 octets))
 unfolding pair kind
 pair_read octets long =
     let a = length-drop 1 octets in
@@ -199,11 +199,10 @@ half_read a = refl
 alone : (n : ℕ) → n * 1 + 0 ≡ n
 alone n = omega arith
 
-two_read_of : (a b : ℕ) (more : List ℕ) → pair.read (a ∷ b ∷ more) ≡ Ok (asked_of (record { option = a; suboption = b; value = [] }), more)
+two_read_of : (a b : ℕ) (more : List ℕ) → pair.read (a ∷ b ∷ more) ≡ Ok (asked_of (pair_in a b), more)
 two_read_of a b more =
     pair_read (a ∷ b ∷ more) (omega arith)
-    ∙ (ap (λ (o : ℕ). Ok (record { kind = kind_of o (b * 1 + 0); contents = [] }, more)) (alone a)
-    ∙ ap (λ (s : ℕ). Ok (record { kind = kind_of a s; contents = [] }, more)) (alone b))
+    ∙ (ap (λ (o : ℕ). found_as o (b * 1 + 0) [] more) (alone a) ∙ ap (λ (s : ℕ). found_as a s [] more) (alone b))
 
 pub pairs_read : (most : ℕ) (octets : List ℕ) → read_all most fault.Block pair octets ≡ as_read (pairs_at most octets)
 unfolding read_all
@@ -214,7 +213,7 @@ pairs_read (suc most) (first ∷ []) =
     cond-false (length (first ∷ []) == 0) _ _ (some_length first [])
     ∙ ap (λ (r : Result (AskedBlock × List ℕ) DcpFault). r >>= λ x. read_all most fault.Block pair x.1 >>= λ values. Ok (x.0 ∷ values)) (half_read first)
 pairs_read (suc most) (first ∷ second ∷ more) =
-    let one : Block = record { option = first; suboption = second; value = [] } in
+    let one : Block = pair_in first second in
     cond-false (length (first ∷ second ∷ more) == 0) _ _ (some_length first (second ∷ more))
     ∙ (ap (λ (r : Result (AskedBlock × List ℕ) DcpFault). r >>= λ x. read_all most fault.Block pair x.1 >>= λ values. Ok (x.0 ∷ values)) (two_read_of first second more)
     ∙ (ap (λ (r : Result (List AskedBlock) DcpFault). r >>= λ values. Ok (asked_of one ∷ values)) (pairs_read most more)

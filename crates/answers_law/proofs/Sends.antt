@@ -183,17 +183,17 @@ module _ (outcomes : List Outcome) (station : Fixed) (live : Live) where
       unfolding heard_step handled_step
       set_frames = refl
 
-      by_farewell : (last : List ℕ) (farewell : Option Farewell) → AreSendable station.identity (farewells_in farewell ++ SetAnswer asker set answers ∷ [])
+      by_farewell : (farewell : Option Farewell) → AreSendable station.identity (farewells_in farewell ++ SetAnswer asker set answers ∷ [])
           → bytes_of station.identity (SetAnswer asker set answers) ≡ set_answer has blocks errors frame
           → AnswersSet has blocks frame (map (bytes_of station.identity) (farewells_in farewell ++ SetAnswer asker set answers ∷ []))
-      by_farewell last None can is = record {
+      by_farewell None can is = record {
         errors = errors;
         each = each;
         ended = [];
         at_most_one = inl refl;
         is = ap (λ (l : List ℕ). l ∷ []) is;
       }
-      by_farewell last (Some farewell) can is = record {
+      by_farewell (Some farewell) can is = record {
         errors = errors;
         each = each;
         ended = bytes_of station.identity (Ends farewell) ∷ [];
@@ -212,7 +212,7 @@ module _ (outcomes : List Outcome) (station : Fixed) (live : Live) where
       pub set_sent : ((k : ℕ) → get_or frame k 0 < 256) → 10 ≤ length (pdu frame) → AreSendable station.identity (heard_step outcomes station live (Asks asker set)).sent
           → AnswersSet has blocks frame (sent_at (Asks asker set))
       set_sent small long can =
-          subst (AnswersSet has blocks frame) (sym set_frames) (by_farewell [] ended_by_set (sendable_set can) (answer_is small long))
+          subst (AnswersSet has blocks frame) (sym set_frames) (by_farewell ended_by_set (sendable_set can) (answer_is small long))
 
     -- ---- ARP
 

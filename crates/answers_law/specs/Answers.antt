@@ -62,7 +62,7 @@ unknown option = if option == 1 || option == 2 || option == 5 then 2 else 1
 abbrev pub outcome_octets : Block → ℕ → List ℕ
 outcome_octets block error = block_octets 5 4 (block.option ∷ block.suboption ∷ error ∷ [])
 
--- What answers a pair: the value with a BlockInfo of 0, or why there is none.
+-- What answers a pair: the value with a BlockInfo of 0, or why it has no value.
 abbrev pub value_or_outcome : Option (List ℕ) → Block → List ℕ
 value_or_outcome (Some value) pair = block_octets pair.option pair.suboption (0 ∷ 0 ∷ value)
 value_or_outcome None pair = outcome_octets pair (unknown pair.option)

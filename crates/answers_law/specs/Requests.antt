@@ -48,9 +48,16 @@ pub record Block : Type 0 where
   pub suboption : ℕ
   pub value : List ℕ
 
--- The blocks of an Identify or a Set (4.3.1.4): Option 0, Suboption 1, length 2, value 4, and an octet of padding after a value of an odd
--- length, which may be missing at the end. Each has at least this many octets of value, all of them are there, and there are at most n blocks;
--- else none is read.
+-- The block at the front of octets: Option 0, Suboption 1, length 2, value 4.
+abbrev pub block_in : List ℕ → Block
+block_in octets = record { option = octet_at 0 octets; suboption = octet_at 1 octets; value = part_at 4 (word_at 2 octets) octets }
+
+-- The pair of an Option and a Suboption.
+abbrev pub pair_in : ℕ → ℕ → Block
+pair_in option suboption = record { option = option; suboption = suboption; value = [] }
+
+-- The blocks of an Identify or a Set (4.3.1.4), with an octet of padding after a value of an odd length, which may be missing at the end. Each has
+-- at least this many octets of value, all of them are there, and there are at most n blocks; else no block is read.
 abbrev pub blocks_at : ℕ → ℕ → List ℕ → Option (List Block)
 blocks_at least most [] = Some []
 blocks_at least zero (first ∷ more) = None
@@ -58,8 +65,7 @@ blocks_at least (suc most) (first ∷ more) =
     let octets = first ∷ more in
     let size = word_at 2 octets in
     if nat_le least size && nat_le (4 + size) (length octets)
-    then option_map (λ blocks. record { option = octet_at 0 octets; suboption = octet_at 1 octets; value = part_at 4 size octets } ∷ blocks)
-        (blocks_at least most (drop (4 + size + size % 2) octets))
+    then option_map (λ (blocks : List Block). block_in octets ∷ blocks) (blocks_at least most (drop (4 + size + size % 2) octets))
     else None
 
 -- The pairs of a Get (4.3.1.4): Option and Suboption, at most n of them.
@@ -68,7 +74,7 @@ pairs_at most [] = Some []
 pairs_at zero (first ∷ more) = None
 pairs_at (suc most) (first ∷ []) = None
 pairs_at (suc most) (first ∷ second ∷ more) =
-    option_map (λ pairs. record { option = first; suboption = second; value = [] } ∷ pairs) (pairs_at most more)
+    option_map (λ (pairs : List Block). pair_in first second ∷ pairs) (pairs_at most more)
 
 -- A request of a service (4.3.1.2): ServiceType is 0, all octets of its data are there, and it is not longer than a frame of Ethernet.
 pub record IsRequest (id service : ℕ) (frame : List ℕ) : Type 0 where
