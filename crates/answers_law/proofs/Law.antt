@@ -1,5 +1,5 @@
 -- A step of a device answers what it must, and is silent to all else.
-use Rattle.std.proofs.Common.{◌≡◌, ◌≢◌, ◌⊎◌, inl, inr, ◌<◌, ◌≤◌, ◌==◌, ◌&&◌, ℕ, Bool, true, false, not, nat_eq, nat_lt, List, [], ◌∷◌, length, take, get_or, Option, Some, None, refl, sym, ap, subst, ◌∙◌, arith}
+use Rattle.std.proofs.Common.{◌≡◌, ◌≢◌, ◌⊎◌, inl, inr, ◌+◌, ◌<◌, ◌≤◌, ◌==◌, ◌&&◌, ℕ, Bool, true, false, not, nat_eq, nat_lt, List, [], ◌∷◌, length, take, get_or, Option, Some, None, refl, sym, ap, subst, ◌∙◌, arith}
 use Rattle.std.proofs.lemmas.Bool.{and_from, and_left, and_parts, and_right, eqb-true, lt-ltb, ltb-true}
 use Rattle.std.specs.Cmp.Lexicographic.{pointwise}
 use Rattle.std.specs.List.{list_all}
@@ -91,14 +91,14 @@ module _ {F : Type 0} {S : ℕ} (as_flash : Flash F S) (old new : State F) (even
     dcp_gone source request Set blocks same there to found are = absurd (it.set blocks (record { is = there; to = to; there = found }))
     dcp_gone source request Identify blocks same there to found are =
         subst (λ (r : Asked). Gone (Asks source r)) (sym are) (identify_silent steps.outcomes old.station old.live frame 0xFEFE blocks source
-        (by_test (nat_lt 0 (length blocks) && list_all (fits has) blocks) (λ yes.
-        let parts = and_parts (nat_lt 0 (length blocks)) (list_all (fits has) blocks) yes in
-        absurd (it.identify (record { is = there; to = to; blocks = blocks; there = found; some = ltb-true 0 (length blocks) parts.0; fit = parts.1 }))) (λ no. no)))
+        (by_test (nat_lt 0 (length blocks) && list_all (fits has) blocks) (λ fit.
+        let parts = and_parts (nat_lt 0 (length blocks)) (list_all (fits has) blocks) fit in
+        absurd (it.identify (record { is = there; to = to; blocks = blocks; there = found; some = ltb-true 0 (length blocks) parts.0; fit = parts.1 }))) (λ fails. fails)))
 
     arp_gone : (type : word_at (type_place frame) frame ≡ 0x0806) (source : Mac) (asked : Arp) → IsPacket (packet frame) asked → (take 6 frame ≡ has.mac) ⊎ (take 6 frame ≡ broadcast_address)
         → length frame ≤ type_place frame + 1502 → Gone (Resolves source asked)
-    arp_gone type source asked there to short = resolve_silent steps.outcomes old.station old.live frame source asked (by_test (is_request asked.operation && is_running old.live.values.running asked.target.address) (λ yes.
-        let parts = and_parts (is_request asked.operation) (is_running old.live.values.running asked.target.address) yes in
+    arp_gone type source asked there to short = resolve_silent steps.outcomes old.station old.live frame source asked (by_test (is_request asked.operation && is_running old.live.values.running asked.target.address) (λ fit.
+        let parts = and_parts (is_request asked.operation) (is_running old.live.values.running asked.target.address) fit in
         let runs = and_parts (pointwise nat_eq asked.target.address has.address) (not (is_zero asked.target.address)) parts.1 in
         let target = octets_same asked.target.address has.address runs.0 in
         absurd (it.resolve (record {
@@ -113,7 +113,7 @@ module _ {F : Type 0} {S : ℕ} (as_flash : Flash F S) (old new : State F) (even
           real = λ zero. no_false (sym (ap not (test_same asked.target.address (0 ∷ 0 ∷ 0 ∷ 0 ∷ []) (target ∙ zero))) ∙ runs.1);
           whole = there.long;
           short = short;
-        }))) (λ no. no))
+        }))) (λ fails. fails))
 
     by_type : ((word_at (type_place frame) frame ≡ 0x8892) × (0xFEFC ≤ frame_id_in frame) × (frame_id_in frame ≤ 0xFEFF)) ⊎ (word_at (type_place frame) frame ≡ 0x0806)
         → Gone (heard_frame old.station.identity (frame_of frame))

@@ -17,7 +17,7 @@ use Rattle.answers_law.specs.Requests.{Block, Station, fits}
 use Rattle.answers_law.specs.Answers.{first_pairs, is_same_pair, outcome_octets, pair_answer}
 use Rattle.answers_law.specs.Device.{station_of}
 use Rattle.answers_law.proofs.Tests.{by_test}
-use Rattle.answers_law.proofs.Kinds.{block_fits, kept, outcome_is, pair_given}
+use Rattle.answers_law.proofs.KindCases.{block_fits, kept, outcome_is, pair_given}
 use Rattle.answers_law.proofs.Lists.{asked_of}
 
 pub many : (blocks : List Block) → length (map asked_of blocks) ≡ length blocks
@@ -70,10 +70,10 @@ module _ (identity : Identity) (running : Settings) (alias : Option (List ℕ)) 
       (λ is.
       ap answers (cond-true (list_any (is_same (kind_at pair)) (map kind_at before)) _ _ (any_same pair before ∙ is))
       ∙ (later ∙ ap (flat_map (pair_answer has)) (sym (cond-true (list_any (is_same_pair pair) before) _ _ is))))
-      (λ no.
-      ap answers (cond-false (list_any (is_same (kind_at pair)) (map kind_at before)) _ _ (any_same pair before ∙ no))
+      (λ other.
+      ap answers (cond-false (list_any (is_same (kind_at pair)) (map kind_at before)) _ _ (any_same pair before ∙ other))
       ∙ (ap₂ (λ (x y : List ℕ). x ++ y) (pair_given identity running alias pair) later
-      ∙ ap (flat_map (pair_answer has)) (sym (cond-false (list_any (is_same_pair pair) before) _ _ no))))
+      ∙ ap (flat_map (pair_answer has)) (sym (cond-false (list_any (is_same_pair pair) before) _ _ other))))
 
   pub pairs_given : (request : Asked) (pairs : List Block) → request.blocks ≡ map asked_of pairs
       → flat_map (got identity running alias) (firsts_of [] (map (λ (block : AskedBlock). block.kind) request.blocks)) ≡ flat_map (pair_answer has) (first_pairs [] pairs)

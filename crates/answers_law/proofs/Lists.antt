@@ -210,8 +210,7 @@ pairs_read zero [] = refl
 pairs_read (suc most) [] = refl
 pairs_read zero (first ∷ more) = cond-false (length (first ∷ more) == 0) _ _ (some_length first more)
 pairs_read (suc most) (first ∷ []) =
-    cond-false (length (first ∷ []) == 0) _ _ (some_length first [])
-    ∙ ap (λ (r : Result (AskedBlock × List ℕ) DcpFault). r >>= λ x. read_all most fault.Block pair x.1 >>= λ values. Ok (x.0 ∷ values)) (half_read first)
+    ap (λ (r : Result (AskedBlock × List ℕ) DcpFault). r >>= λ x. read_all most fault.Block pair x.1 >>= λ values. Ok (x.0 ∷ values)) (half_read first)
 pairs_read (suc most) (first ∷ second ∷ more) =
     let one : Block = pair_in first second in
     cond-false (length (first ∷ second ∷ more) == 0) _ _ (some_length first (second ∷ more))

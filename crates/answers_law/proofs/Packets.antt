@@ -189,7 +189,7 @@ module _ (octets : List ℕ) (long : 28 ≤ length octets) where
 stepped : (n m : ℕ) (bytes front rest : List ℕ) → bytes ≡ front ++ rest → length front ≡ m → drop (m + n) bytes ≡ drop n rest
 stepped n m bytes front rest is wide = ap (λ (l : List ℕ). drop (m + n) l) is ∙ skip n m front rest wide
 
-address_of : Content → List ℕ
+abbrev address_of : Content → List ℕ
 address_of (UdpDatagram from to body) = to.address
 address_of other = []
 

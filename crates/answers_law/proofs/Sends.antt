@@ -117,13 +117,13 @@ module _ (outcomes : List Outcome) (station : Fixed) (live : Live) where
       matched_is = matched station.identity live.values.running (alias_in live.rest.peer) identify blocks refl
 
       pub identify_silent : (source : Mac) → (nat_lt 0 (length blocks) && list_all (fits has) blocks) ≡ false → sent_at (Asks source identify) ≡ []
-      identify_silent source no =
-          refused (Asks source identify) _ (cond-false (matches station.identity live.values.running (alias_in live.rest.peer) identify) _ _ (matched_is ∙ no))
+      identify_silent source fails =
+          refused (Asks source identify) _ (cond-false (matches station.identity live.values.running (alias_in live.rest.peer) identify) _ _ (matched_is ∙ fails))
 
       pub identify_sent : ((k : ℕ) → get_or frame k 0 < 256) → 10 ≤ length (pdu frame) → (nat_lt 0 (length blocks) && list_all (fits has) blocks) ≡ true
           → sent_at (Asks asker identify) ≡ identify_answer has frame ∷ []
-      identify_sent small long yes =
-          moved (Asks asker identify) _ _ (cond-true (matches station.identity live.values.running (alias_in live.rest.peer) identify) _ _ (matched_is ∙ yes))
+      identify_sent small long fit =
+          moved (Asks asker identify) _ _ (cond-true (matches station.identity live.values.running (alias_in live.rest.peer) identify) _ _ (matched_is ∙ fit))
           ∙ ap (λ (l : List ℕ). l ∷ [])
           (ap (λ (l : List ℕ). answer_frame station.identity asker 65279 l) (identity_given station.identity live.values.running (alias_in live.rest.peer) identify.xid)
           ∙ (identify_frame station.identity asker 5 identify.xid (identity_blocks has)
@@ -217,12 +217,12 @@ module _ (outcomes : List Outcome) (station : Fixed) (live : Live) where
     -- ---- ARP
 
     pub resolve_silent : (source : Mac) (asked : Arp) → (is_request asked.operation && is_running live.values.running asked.target.address) ≡ false → sent_at (Resolves source asked) ≡ []
-    resolve_silent source asked no = refused (Resolves source asked) _ (cond-false (is_request asked.operation && is_running live.values.running asked.target.address) _ _ no)
+    resolve_silent source asked fails = refused (Resolves source asked) _ (cond-false (is_request asked.operation && is_running live.values.running asked.target.address) _ _ fails)
 
     pub resolve_sent : (asked : Arp) → IsPacket (packet frame) asked → (is_request asked.operation && is_running live.values.running asked.target.address) ≡ true
         → sent_at (Resolves asker asked) ≡ resolve_answer has frame ∷ []
-    resolve_sent asked it yes =
-        moved (Resolves asker asked) _ _ (cond-true (is_request asked.operation && is_running live.values.running asked.target.address) _ _ yes)
+    resolve_sent asked it asks =
+        moved (Resolves asker asked) _ _ (cond-true (is_request asked.operation && is_running live.values.running asked.target.address) _ _ asks)
         ∙ ap (λ (l : List ℕ). l ∷ [])
         (arp_frame station.identity asker live.values.running.suite.address asked.sender
         ∙ ap₂ (λ (m a : List ℕ). padded (part_at 6 6 frame ++ (station.identity.mac.octets ++ (0x08 ∷ 0x06 ∷ 0 ∷ 1 ∷ 0x08 ∷ 0 ∷ 6 ∷ 4 ∷ 0 ∷ 2 ∷ (station.identity.mac.octets ++ (live.values.running.suite.address ++ (m ++ a)))))))
@@ -231,7 +231,7 @@ module _ (outcomes : List Outcome) (station : Fixed) (live : Live) where
   -- ---- IPv4
 
   pub reported_silent : (caller : Caller) (address : List ℕ) (said : Said) → is_running live.values.running address ≡ false → sent_at (Reported caller address said) ≡ []
-  reported_silent caller address said no = refused (Reported caller address said) _ (cond-false (is_running live.values.running address) _ _ no)
+  reported_silent caller address said fails = refused (Reported caller address said) _ (cond-false (is_running live.values.running address) _ _ fails)
 
   pub unreadable_silent : sent_at Unreadable ≡ []
   unreadable_silent = refused Unreadable _ refl

@@ -1,5 +1,5 @@
 -- The frames of answers, octet by octet.
-use Rattle.std.proofs.Common.{◌≡◌, ◌+◌, ◌*◌, ◌/◌, ◌%◌, ◌<◌, ◌≤◌, ℕ, List, [], ◌∷◌, ◌++◌, length, take, get_or, Option, refl, ap, ◌∙◌, arith}
+use Rattle.std.proofs.Common.{◌≡◌, ◌+◌, ◌*◌, ◌/◌, ◌%◌, ◌<◌, ◌≤◌, ℕ, List, [], ◌∷◌, ◌++◌, length, take, get_or, Option, append-nil, refl, ap, ◌∙◌, arith}
 use Rattle.std.specs.Int.{w32, to_be_bytes}
 use Rattle.byteorder.specs.Endian.{big_number}
 use Rattle.pn_values.specs.declared.mac.Mac.{Mac}
@@ -31,11 +31,19 @@ unfolding identify_bytes
 identity_given identity running alias xid = refl
 
 -- The reply to a request of ARP.
+arp_octets : (identity : Identity) (asker : Mac) (address : List ℕ) (target : Holder)
+    → reply_frame identity asker address target
+    ≡ padded (asker.octets ++ (identity.mac.octets ++ (0x08 ∷ 0x06 ∷ 0 ∷ 1 ∷ 0x08 ∷ 0 ∷ 6 ∷ 4 ∷ 0 ∷ 2 ∷ (identity.mac.octets ++ (address ++ (target.mac.octets ++ (target.address ++ [])))))))
+unfolding frame_bytes layers ethernet mac tag_and_type arp arp_packet arp_head operation holder
+arp_octets identity asker address target = refl
+
 pub arp_frame : (identity : Identity) (asker : Mac) (address : List ℕ) (target : Holder)
     → reply_frame identity asker address target
     ≡ padded (asker.octets ++ (identity.mac.octets ++ (0x08 ∷ 0x06 ∷ 0 ∷ 1 ∷ 0x08 ∷ 0 ∷ 6 ∷ 4 ∷ 0 ∷ 2 ∷ (identity.mac.octets ++ (address ++ (target.mac.octets ++ target.address))))))
-unfolding frame_bytes layers ethernet mac tag_and_type arp arp_packet arp_head operation holder
-arp_frame identity asker address target = refl
+arp_frame identity asker address target =
+    arp_octets identity asker address target
+    ∙ ap (λ (l : List ℕ). padded (asker.octets ++ (identity.mac.octets ++ (0x08 ∷ 0x06 ∷ 0 ∷ 1 ∷ 0x08 ∷ 0 ∷ 6 ∷ 4 ∷ 0 ∷ 2 ∷ (identity.mac.octets ++ (address ++ (target.mac.octets ++ l)))))))
+    (append-nil target.address)
 
 -- ---- Xid: four octets that are read as a number and written again
 

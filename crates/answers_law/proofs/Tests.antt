@@ -6,16 +6,16 @@ use Rattle.end_laws.proofs.CyclicAccepting.{octets_same, same_octets}
 
 -- By the result of a test.
 pub by_test : {A : Type 0} (b : Bool) → (b ≡ true → A) → (b ≡ false → A) → A
-by_test true yes no = yes refl
-by_test false yes no = no refl
+by_test true one other = one refl
+by_test false one other = other refl
 
--- No list is another one and the same.
+-- A test that fails does not hold.
 pub no_false : false ≡ true → ⊥
 no_false is = cc
 
 -- Two lists that are not the same, by their test.
 pub differ : (one other : List ℕ) → (one ≡ other → ⊥) → pointwise nat_eq one other ≡ false
-differ one other no = by_test (pointwise nat_eq one other) (λ is. absurd (no (octets_same one other is))) (λ is. is)
+differ one other apart = by_test (pointwise nat_eq one other) (λ is. absurd (apart (octets_same one other is))) (λ is. is)
 
 pub test_same : (one other : List ℕ) → one ≡ other → pointwise nat_eq one other ≡ true
 test_same one other is = ap (λ (l : List ℕ). pointwise nat_eq one l) (sym is) ∙ same_octets one

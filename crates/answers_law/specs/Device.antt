@@ -1,12 +1,15 @@
 -- A device as a station that is asked.
-use Rattle.std.specs.Prelude.{◌≡◌, ◌⊎◌, ◌<◌, ◌++◌, ◌+◌, ℕ, List, [], ◌∷◌, length, get_or, Option}
+use Rattle.std.specs.Prelude.{true, ◌≡◌, ◌⊎◌, ◌<◌, ◌++◌, ◌+◌, ℕ, List, [], ◌∷◌, length, get_or, Option}
 use Rattle.std.specs.Int.{w16, to_be_bytes}
 use Rattle.pn_values.specs.declared.identity.Identity.{Identity}
+use Rattle.pn_values.specs.declared.mac.Mac.{Mac}
 use Rattle.pn_values.specs.declared.settings.Settings.{Settings}
 use Rattle.device_frames.specs.declared.event.Event.{Event}
 use Rattle.device_frames.specs.declared.event.Event.TheVariants.{Frame}
 use Rattle.device_core.specs.State.{Live, Station as Fixed, alias_in}
 use Rattle.field_words.specs.Octets.{type_place, word_at}
+use Rattle.octets_law.specs.Octets.{in_order}
+use Rattle.octets_law.specs.Owed.{IsFor, is_whole_call}
 use Rattle.answers_law.specs.Requests.{Block, Station}
 use Rattle.answers_law.specs.Answers.{set_answer}
 
@@ -41,3 +44,9 @@ pub record AnswersSet (has : Station) (blocks : List Block) (frame : List ℕ) (
   pub ended : List (List ℕ)
   pub at_most_one : (ended ≡ []) ⊎ ((farewell : List ℕ) × (ended ≡ farewell ∷ []) × (word_at (type_place farewell + 2) farewell ≡ 0xFE01))
   pub is : sent ≡ ended ++ set_answer has blocks errors frame ∷ []
+
+-- An event has a whole Read Implicit (operation 5) for the MAC address and the running address of a device.
+pub record IsReadImplicit (mac : Mac) (address : List ℕ) (event : Event) (call : List ℕ) : Type 0 where
+  pub for : IsFor mac address event call
+  pub whole : is_whole_call call ≡ true
+  pub operation : in_order 68 2 call ≡ 5

@@ -1,11 +1,11 @@
 //! One step of a device, and which frames it answers.
-ghost use Rattle.std.specs.Prelude.{◌≡◌, ◌<◌, [], ◌∷◌, ℕ, List, get_or};
+ghost use Rattle.std.specs.Prelude.{◌≡◌, ◌<◌, ◌≤◌, [], ◌∷◌, ℕ, List, get_or, length};
 ghost use Rattle.arrayvec.specs.ArrayVec.{ArrayVec};
 ghost use Rattle.frame_codec.specs.Outbox.{boxed};
 ghost use Rattle.device_frames.specs.declared.event.Event.TheVariants.{Frame};
 ghost use Rattle.answers_law.specs.Requests.{Block, IsElsewhere, IsGet, IsIdentify, IsOfOther, IsResolve, IsSet, IsUnasked};
 ghost use Rattle.answers_law.specs.Answers.{get_answer, identify_answer, resolve_answer};
-ghost use Rattle.answers_law.specs.Device.{AnswersSet, AreOctets, station_at};
+ghost use Rattle.answers_law.specs.Device.{AnswersSet, AreOctets, IsReadImplicit, station_at};
 
 use device_core::{Device, Event, Note};
 use flash_model::Flash;
@@ -38,6 +38,10 @@ pub fn device_answers<F: Flash<S>, const S: usize>(
     ensures set { (frame : ArrayVec ℕ) (blocks : List Block) → event.now ≡ Frame frame
         → IsSet (station_at device.old.station device.old.live) blocks frame.items
         → AnswersSet (station_at device.old.station device.old.live) blocks frame.items (boxed outbox.new) }
+    // At a whole Read Implicit at most one frame is sent.
+    ensures implicit { (call : List ℕ)
+        → IsReadImplicit device.old.station.identity.mac device.old.live.values.running.suite.address event.now call
+        → length (boxed outbox.new) ≤ 1 }
     // A request of ARP for the running address is answered once, to the station that asked.
     ensures resolve { (frame : ArrayVec ℕ) → event.now ≡ Frame frame
         → IsResolve (station_at device.old.station device.old.live) frame.items

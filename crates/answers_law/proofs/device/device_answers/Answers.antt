@@ -1,4 +1,5 @@
 -- The step of a device answers what it must, and is silent to all else.
+use Rattle.answers_law.proofs.Calls.{implicit_at}
 use Rattle.answers_law.proofs.Law.{elsewhere_at, get_at, identify_at, of_other_at, resolve_at, set_at, unasked_at}
 use Rattle.answers_law.proofs.device.device_answers.Goals as goal
 
@@ -22,3 +23,6 @@ returns-clause-set g c = λ frame blocks is it. set_at _ _ _ c.args.event.now _ 
 
 pub returns-clause-resolve : goal.returns-clause-resolve
 returns-clause-resolve g c = λ frame is it. resolve_at _ _ _ c.args.event.now _ _ c.step.ensures.steps frame is it
+
+pub returns-clause-implicit : goal.returns-clause-implicit
+returns-clause-implicit g c = λ call it. implicit_at _ _ _ c.args.event.now _ _ c.step.ensures.steps call it

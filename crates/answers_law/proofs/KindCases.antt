@@ -1,17 +1,18 @@
 -- What holds of each Option and Suboption that the device tells apart, and of all others, holds of all.
 use Rattle.std.proofs.Common.{◌≡◌, ◌==◌, ◌&&◌, ◌||◌, ◌++◌, ℕ, Bool, true, false, nat_eq, List, [], ◌∷◌, Option, Some, None, refl, sym, ap, subst, ◌∙◌}
-use Rattle.std.proofs.lemmas.Bool.{and_parts, eqb-true}
+use Rattle.std.proofs.lemmas.Bool.{and_parts, cond-false, eqb-true}
 use Rattle.std.specs.Cmp.Lexicographic.{pointwise}
 use Rattle.pn_values.specs.declared.identity.Identity.{Identity}
 use Rattle.pn_values.specs.declared.settings.Settings.{Settings}
 use Rattle.pn_values.specs.declared.set_item.BlockError.{BlockError}
+use Rattle.pn_values.specs.declared.set_item.BlockError.TheVariants as error
 use Rattle.dcp_core.specs.declared.kind.Kind.{Kind}
 use Rattle.dcp_core.specs.declared.kind.Kind.TheVariants.{AliasName}
 use Rattle.dcp_core.specs.Bytes.{block_bytes, error_number, response_bytes}
 use Rattle.dcp_core.specs.declared.kind.Kind.TheVariants as kinds
 use Rattle.dcp_core.specs.Get.{got}
 use Rattle.dcp_core.specs.Identify.{is_value, kind_matches}
-use Rattle.dcp_core.specs.Kinds.{kind_of, option_of, suboption_of}
+use Rattle.dcp_core.specs.Kinds.{blame, kind_of, option_of, suboption_of}
 use Rattle.answers_law.specs.Requests.{Block, Station, fits, is_alias}
 use Rattle.answers_law.specs.Answers.{outcome_octets, pair_answer, unknown, value_or_outcome}
 use Rattle.answers_law.specs.Device.{station_of}
@@ -149,6 +150,9 @@ module _ (identity : Identity) (running : Settings) (alias : Option (List ℕ)) 
     alias_given (Some name) = refl
     alias_given None = refl
 
+    blame_other : (o s : ℕ) → (o == 1) ≡ false → (o == 2) ≡ false → (o == 5) ≡ false → blame (kinds.Other o s) ≡ error.Option
+    blame_other o s a b c = cond-false (o == 1 || o == 2 || o == 5) error.Suboption error.Option (rw (a, b, c) refl)
+
     gives_each : (o s : ℕ) → Gives o s
     gives_each = by_kind Gives (record {
       all = refl;
@@ -168,7 +172,7 @@ module _ (identity : Identity) (running : Settings) (alias : Option (List ℕ)) 
       control_5 = refl;
       control_6 = refl;
       control = λ s a b c d. rw (a, b, c, d) refl;
-      other = λ o s x a b c. rw (x, a, b, c) refl;
+      other = λ o s x a b c. rw (x, a, b, c) (ap (λ (e : BlockError). block_bytes kinds.Response (o ∷ s ∷ error_number e ∷ [])) (blame_other o s a b c));
     })
 
   pub pair_given : (pair : Block) → got identity running alias (kind_of pair.option pair.suboption) ≡ pair_answer has pair
