@@ -26,7 +26,6 @@ use Rattle.octets_law.proofs.Datagrams.{kind_under}
 use Rattle.octets_law.proofs.EventSteps.{arp_type, datagram_type}
 use Rattle.field_words.specs.Octets.{octet_at, part_at, type_place, word_at}
 use Rattle.end_laws.proofs.CyclicAccepting.{octets_same}
-use Rattle.end_laws.proofs.HearingChoices.{cyclic_small}
 use Rattle.end_laws.proofs.CyclicPlaces.{mac_of, read_is_there, there_is_read}
 use Rattle.answers_law.specs.Requests.{Block, IsElsewhere, IsRequest, Station, broadcast_address, data_in, frame_id_in, identify_address, packet, pdu}
 use Rattle.answers_law.proofs.Tests.{differ, no_false, test_same}
@@ -72,11 +71,11 @@ none_taken first own second cast a b = rw (a, b) (both_none first second)
 no_own : (own other : Bool) → own ≡ false → (own && other) ≡ false
 no_own own other is = ap (λ (b : Bool). b && other) is
 
--- A FrameID of DCP is not one of alarms.
-no_alarm_id : (id : ℕ) → 0xFEFC ≤ id → is_alarm id ≡ true → ⊥
-no_alarm_id id least is = elim (or_cases (id == 0xFC01) (id == 0xFE01) is) [
-  | inl e ↦ (let same = eqb-true id 0xFC01 e in omega (arith, least, same))
-  | inr e ↦ (let same = eqb-true id 0xFE01 e in omega (arith, least, same))
+-- A FrameID that is not one of alarms.
+no_alarm_id : (id : ℕ) → (id ≡ 0xFC01 → ⊥) → (id ≡ 0xFE01 → ⊥) → is_alarm id ≡ true → ⊥
+no_alarm_id id high low is = elim (or_cases (id == 0xFC01) (id == 0xFE01) is) [
+  | inl e ↦ high (eqb-true id 0xFC01 e)
+  | inr e ↦ low (eqb-true id 0xFE01 e)
 ]
 
 module _ (identity : Identity) (frame : List ℕ) where
@@ -102,7 +101,8 @@ module _ (identity : Identity) (frame : List ℕ) where
 
   module _ (Holds : Heard → Type 0) (unreadable : Holds Unreadable) (elsewhere : Holds Elsewhere) where
     -- What holds of each request that is there holds of a frame of DCP.
-    module _ (type : word_at (type_place frame) frame ≡ 0x8892) (least : 0xFEFC ≤ frame_id_in frame)
+    module _ (type : word_at (type_place frame) frame ≡ 0x8892) (no_cyclic : is_cyclic (frame_id_in frame) ≡ false)
+        (no_high : frame_id_in frame ≡ 0xFC01 → ⊥) (no_low : frame_id_in frame ≡ 0xFE01 → ⊥)
         (asks : (source : Mac) (request : Asked) (service : Service) (blocks : List Block) → request.service ≡ service → IsRequest (frame_id_of service) (id_of service) frame
         → Reaches identity (take 6 frame) service → listed service (data_in frame) ≡ Some blocks → request ≡ asked_at (frame_id_of service) (pdu frame) service blocks
         → Holds (Asks source request)) where
@@ -134,9 +134,9 @@ module _ (identity : Identity) (frame : List ℕ) where
           let same : frame_id_in frame ≡ id = it.frame_id in
           cond_both (is_taken identity meaning.destination id) _ _ Holds (λ taken. by_request meaning id body same it.rest it.destination it.short taken (request_of id body) refl)
           (λ _. cond_both (is_own identity meaning.destination && is_alarm id) _ _ Holds
-          (λ alarm. absurd (no_alarm_id id (subst (λ (n : ℕ). 0xFEFC ≤ n) same least) (and_parts (is_own identity meaning.destination) (is_alarm id) alarm).1))
+          (λ alarm. absurd (no_alarm_id id (λ e. no_high (same ∙ e)) (λ e. no_low (same ∙ e)) (and_parts (is_own identity meaning.destination) (is_alarm id) alarm).1))
           (λ _. cond_both (is_own identity meaning.destination && is_cyclic id) _ _ Holds
-          (λ cyclic. absurd (let most = cyclic_small id (and_parts (is_own identity meaning.destination) (is_cyclic id) cyclic).1 in omega (arith, most, same, least))) (λ _. elsewhere)))
+          (λ cyclic. absurd (no_false (sym no_cyclic ∙ (ap is_cyclic same ∙ (and_parts (is_own identity meaning.destination) (is_cyclic id) cyclic).1)))) (λ _. elsewhere)))
       by_content meaning read (ArpPacket packet) is =
           let it = open_takes frame meaning read in
           let other = arp_type (word_at (type_place frame) frame) (drop (type_place frame + 2) frame) meaning.content packet is (kind_under (word_at (type_place frame) frame) (drop (type_place frame + 2) frame) meaning.content it.content) in
@@ -208,6 +208,26 @@ module _ (identity : Identity) (frame : List ℕ) where
 
       pub ip_holds : Holds (heard_frame identity (frame_of frame))
       ip_holds = ip_frame (frame_of frame) refl
+
+    -- What holds of a frame with another EtherType.
+    module _ (no_real_time : word_at (type_place frame) frame ≡ 0x8892 → ⊥) (no_arp : word_at (type_place frame) frame ≡ 0x0806 → ⊥)
+        (no_internet : word_at (type_place frame) frame ≡ 0x0800 → ⊥) where
+      unknown_content : (meaning : Meaning) → frame_of frame ≡ Ok meaning → (content : Content) → meaning.content ≡ content
+          → Holds (heard_content identity meaning.destination meaning.source content)
+      unknown_content meaning read (RealTime id body) is = absurd (no_real_time (read_is_there frame meaning id body read is).type)
+      unknown_content meaning read (ArpPacket asked) is =
+          let it = open_takes frame meaning read in
+          absurd (no_arp (arp_type (word_at (type_place frame) frame) (packet frame) meaning.content asked is (kind_under (word_at (type_place frame) frame) (packet frame) meaning.content it.content)))
+      unknown_content meaning read (UdpDatagram from to body) is =
+          let it = open_takes frame meaning read in
+          absurd (no_internet (datagram_type (word_at (type_place frame) frame) (packet frame) meaning.content from to body is (kind_under (word_at (type_place frame) frame) (packet frame) meaning.content it.content)).0)
+
+      unknown_frame : (found : Result Meaning FrameFault) → frame_of frame ≡ found → Holds (heard_frame identity found)
+      unknown_frame (Ok meaning) is = unknown_content meaning is meaning.content refl
+      unknown_frame (Err fault) is = unreadable
+
+      pub unknown_holds : Holds (heard_frame identity (frame_of frame))
+      unknown_holds = unknown_frame (frame_of frame) refl
 
     -- What holds of a frame to other stations.
     module _ (other : take 6 frame ≡ identity.mac.octets → ⊥) (group : take 6 frame ≡ identify_address → ⊥) (all : take 6 frame ≡ broadcast_address → ⊥) where

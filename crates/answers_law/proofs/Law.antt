@@ -27,11 +27,11 @@ use Rattle.device_core.specs.Machine.{heard_step}
 use Rattle.device_core.specs.Steps.{Steps}
 use Rattle.field_words.specs.Octets.{part_at, type_place, word_at}
 use Rattle.end_laws.proofs.CyclicAccepting.{octets_same}
-use Rattle.answers_law.specs.Requests.{Block, IsElsewhere, IsGet, IsIdentify, IsOfOther, IsRequest, IsResolve, IsSet, IsUnasked, Station, broadcast_address, data_in, fits, frame_id_in, packet, pdu}
+use Rattle.answers_law.specs.Requests.{Block, IsElsewhere, IsGet, IsIdentify, IsOfOther, IsRequest, IsResolve, IsSet, IsOtherThan, IsUnasked, Profinet, Resolution, Station, Unknown, broadcast_address, data_in, fits, packet, pdu}
 use Rattle.answers_law.specs.Answers.{get_answer, identify_answer, resolve_answer}
 use Rattle.answers_law.specs.Device.{AnswersSet, AreOctets, station_at}
 use Rattle.answers_law.proofs.Tests.{by_test, differ, no_false, some_same, test_same}
-use Rattle.answers_law.proofs.Heard.{Reaches, arp_holds, dcp_holds, ip_holds, none_holds, packet_heard, request_heard, source_of}
+use Rattle.answers_law.proofs.Heard.{Reaches, arp_holds, dcp_holds, ip_holds, none_holds, packet_heard, request_heard, source_of, unknown_holds}
 use Rattle.answers_law.proofs.Packets.{IsPacket, arp_there, asking}
 use Rattle.answers_law.proofs.Pdus.{asked_at, listed}
 use Rattle.answers_law.proofs.Sends.{elsewhere_silent, get_sent, identify_sent, identify_silent, reported_silent, resolve_sent, resolve_silent, sent_at, set_sent, unreadable_silent}
@@ -115,10 +115,10 @@ module _ {F : Type 0} {S : ℕ} (as_flash : Flash F S) (old new : State F) (even
           short = short;
         }))) (λ fails. fails))
 
-    by_type : ((word_at (type_place frame) frame ≡ 0x8892) × (0xFEFC ≤ frame_id_in frame) × (frame_id_in frame ≤ 0xFEFF)) ⊎ (word_at (type_place frame) frame ≡ 0x0806)
-        → Gone (heard_frame old.station.identity (frame_of frame))
-    by_type (inl dcp) = dcp_holds old.station.identity frame Gone unreadable elsewhere dcp.0 dcp.1 dcp_gone
-    by_type (inr arp) = arp_holds old.station.identity frame Gone unreadable elsewhere arp (arp_gone arp)
+    by_type : IsOtherThan frame → Gone (heard_frame old.station.identity (frame_of frame))
+    by_type (Profinet type cyclic high low) = dcp_holds old.station.identity frame Gone unreadable elsewhere type cyclic high low dcp_gone
+    by_type (Resolution type) = arp_holds old.station.identity frame Gone unreadable elsewhere type (arp_gone type)
+    by_type (Unknown real_time arp internet) = unknown_holds old.station.identity frame Gone unreadable elsewhere real_time arp internet
 
     pub unasked_at : sent ≡ []
     unasked_at = silent (by_type it.type)

@@ -2,6 +2,7 @@
 use Rattle.std.specs.Prelude.{◌≡◌, ◌≢◌, ◌⊎◌, ◌<◌, ◌≤◌, ◌+◌, ◌%◌, ◌==◌, ◌&&◌, ℕ, zero, suc, Bool, true, false, List, [], ◌∷◌, ◌++◌, length, take, drop, Option, Some, None, nat_eq, nat_le, nat_lt, if◌then◌else◌, option_map}
 use Rattle.std.specs.Cmp.Lexicographic.{pointwise}
 use Rattle.std.specs.List.{list_all}
+use Rattle.field_words.specs.Cyclic.{is_cyclic_id}
 use Rattle.field_words.specs.Octets.{octet_at, part_at, type_place, word_at}
 
 -- ---- a station
@@ -179,9 +180,17 @@ pub record IsOfOther (has : Station) (frame : List ℕ) : Type 0 where
   pub ether_type : word_at (type_place frame) frame ≡ 0x0800
   pub target : part_at 16 4 (packet frame) ≢ has.address
 
--- A frame of DCP (FrameID 0xFEFC to 0xFEFF, 4.3.1.1) or of ARP that is no request for the station.
+-- A frame that is neither a packet of IPv4 nor, of PROFINET, one of cyclic data or of alarms (FrameIDs 0xFC01 and 0xFE01, 4.3.1.1): it is one of DCP
+-- or of ARP, or of what a device does not know.
+pub data IsOtherThan (frame : List ℕ) : Type 0 where
+  Profinet : word_at (type_place frame) frame ≡ 0x8892 → is_cyclic_id (frame_id_in frame) ≡ false → frame_id_in frame ≢ 0xFC01 → frame_id_in frame ≢ 0xFE01
+      → IsOtherThan frame
+  Resolution : word_at (type_place frame) frame ≡ 0x0806 → IsOtherThan frame
+  Unknown : word_at (type_place frame) frame ≢ 0x8892 → word_at (type_place frame) frame ≢ 0x0806 → word_at (type_place frame) frame ≢ 0x0800 → IsOtherThan frame
+
+-- A frame of these that is no request for the station.
 pub record IsUnasked (has : Station) (frame : List ℕ) : Type 0 where
-  pub type : ((word_at (type_place frame) frame ≡ 0x8892) × (0xFEFC ≤ frame_id_in frame) × (frame_id_in frame ≤ 0xFEFF)) ⊎ (word_at (type_place frame) frame ≡ 0x0806)
+  pub type : IsOtherThan frame
   pub identify : IsIdentify has frame → ⊥
   pub get : (pairs : List Block) → IsGet has pairs frame → ⊥
   pub set : (blocks : List Block) → IsSet has blocks frame → ⊥

@@ -17,9 +17,9 @@ pub fn device_answers<F: Flash<S>, const S: usize>(
     event: &Event<'_>,
     outbox: &mut Outbox,
 ) -> Note
-    // Nothing is sent at a frame that goes to other stations; at a packet of IPv4 to another address, a Read Implicit among them; and at a
-    // frame of DCP or of ARP that is no request for this device: an Identify that it does not fit in each block, a Get or a Set to others,
-    // a response, or a packet of ARP for another address.
+    // Nothing is sent at a frame that goes to other stations; at a packet of IPv4 to another address, a Read Implicit among them; and at any
+    // frame but IPv4, cyclic frames and alarms that is no request for this device: an Identify that it does not fit in each block, a Get or a
+    // Set to others, a response, a packet of ARP for another address, what it does not know.
     ensures elsewhere { (frame : ArrayVec ℕ) → event.now ≡ Frame frame
         → IsElsewhere (station_at device.old.station device.old.live) frame.items → boxed outbox.new ≡ [] }
     ensures of_other { (frame : ArrayVec ℕ) → event.now ≡ Frame frame
