@@ -1,12 +1,12 @@
 -- At a Read Implicit at most one frame is sent.
-use Rattle.std.proofs.Common.{◌≡◌, ◌≤◌, ◌&&◌, ◌==◌, ℕ, Bool, true, false, nat_eq, List, [], ◌∷◌, length, Option, Some, None, Result, Ok, Err, if◌then◌else◌, refl, sym, ap, subst, ◌∙◌, arith}
+use Rattle.std.proofs.Common.{◌≡◌, ◌≤◌, ◌&&◌, ℕ, Bool, true, false, nat_eq, List, [], ◌∷◌, length, Option, Some, None, Result, Ok, Err, refl, sym, ap, subst, ◌∙◌, arith}
 use Rattle.std.proofs.lemmas.Bool.{cond-true, cond_both}
 use Rattle.std.specs.Cmp.Lexicographic.{pointwise}
 use Rattle.flash_model.specs.declared.flash.Flash.{Ghosts as Flash}
 use Rattle.pn_values.specs.IpSuite.{is_zero}
 use Rattle.frame_codec.specs.Frame.{frame_of}
 use Rattle.frame_codec.specs.declared.udp.Caller.{Caller}
-use Rattle.rpc_core.specs.Cache.{Kept, Reported as Looked, new, again, old}
+use Rattle.rpc_core.specs.Cache.{Reported as Looked, new, again, old}
 use Rattle.rpc_core.specs.Call.{Asked as Called}
 use Rattle.rpc_core.specs.Response.{response_of}
 use Rattle.records.specs.declared.status.call_fault.CallFault.{CallFault}
@@ -24,10 +24,10 @@ use Rattle.device_frames.specs.declared.note.Note.{Note}
 use Rattle.device_frames.specs.Heard.{Calls, Heard, Reported, heard_content, heard_frame, heard_of, is_own, said_by, said_first}
 use Rattle.device_frames.specs.Relation.{where_due}
 use Rattle.device_frames.specs.Sent.{Sent}
-use Rattle.device_core.specs.Asking.{Asking, asking_of, looked_if, is_kept, is_new, question_replies, refused_reply, refused_sent}
+use Rattle.device_core.specs.Asking.{Asking, asking_of, refused_sent}
 use Rattle.device_core.specs.State.{Live, Rest, State, Station}
 use Rattle.device_core.specs.Steps.{Steps}
-use Rattle.device_core.specs.Handled.{Handled, Moves, Refuses, handled, handled_asking, handled_blocks, handled_call, handled_looked, handled_new, handled_question, is_running}
+use Rattle.device_core.specs.Handled.{Handled, Moves, Refuses, handled, handled_asking, handled_blocks, handled_call, handled_looked, handled_question, is_running}
 use Rattle.device_core.specs.Machine.{handled_step, heard_step}
 use Rattle.octets_law.specs.Octets.{args_of, in_order, part}
 use Rattle.octets_law.specs.Owed.{IsFor, is_whole_call}

@@ -1,15 +1,13 @@
 -- What a device hears of the frames that are for it, and of those that are not.
-use Rattle.std.proofs.Common.{◌≡◌, ◌⊎◌, inl, inr, ◌+◌, ◌-◌, ◌≤◌, ◌==◌, ◌&&◌, ◌||◌, ℕ, Bool, true, false, nat_eq, List, [], ◌∷◌, length, take, drop, Option, Some, Result, Ok, Err, if◌then◌else◌, refl, sym, ap, subst, ◌∙◌, arith}
+use Rattle.std.proofs.Common.{◌≡◌, ◌⊎◌, inl, inr, ◌+◌, ◌≤◌, ◌==◌, ◌&&◌, ◌||◌, ℕ, Bool, true, false, nat_eq, List, length, take, drop, Some, Result, Ok, Err, refl, sym, ap, subst, ◌∙◌, arith}
 use Rattle.std.proofs.lemmas.Bool.{and_parts, cond-false, cond-true, cond_both, eqb-true, or_cases, or_from, or_left, or_right}
 use Rattle.std.proofs.lemmas.List.{length-drop}
 use Rattle.std.specs.Cmp.Lexicographic.{pointwise}
 use Rattle.pn_values.specs.declared.mac.Mac.{Mac}
 use Rattle.pn_values.specs.declared.identity.Identity.{Identity}
 use Rattle.frame_codec.specs.declared.arp.Arp.{Arp}
-use Rattle.frame_codec.specs.declared.arp.ArpOperation.TheVariants.{Request}
 use Rattle.frame_codec.specs.declared.fault.FrameFault.{FrameFault}
 use Rattle.frame_codec.specs.declared.udp.Caller.{Caller}
-use Rattle.frame_codec.specs.declared.udp.Endpoint.{Endpoint}
 use Rattle.frame_codec.specs.Calls.{call_port}
 use Rattle.frame_codec.specs.FrameId.{is_alarm, is_cyclic}
 use Rattle.frame_codec.specs.Frame.{content_under, datagram, frame_of}
@@ -20,18 +18,17 @@ use Rattle.dcp_core.specs.declared.request.Service.TheVariants.{Get, Set, Identi
 use Rattle.dcp_core.specs.Format.{frame_id_of, id_of}
 use Rattle.dcp_core.specs.Reading.{request_of}
 use Rattle.dcp_core.specs.Request.{Asked}
-use Rattle.device_frames.specs.Heard.{Asks, Elsewhere, Heard, Reported, Resolves, Said, Unreadable, broadcast, heard_alarm, heard_content, heard_frame, heard_request, identify_multicast, is_own, is_taken, said_by}
-use Rattle.pn_alarms.specs.Message.{message_of}
+use Rattle.device_frames.specs.Heard.{Asks, Elsewhere, Heard, Reported, Resolves, Said, Unreadable, broadcast, heard_content, heard_frame, heard_request, identify_multicast, is_own, is_taken, said_by}
 use Rattle.octets_law.proofs.Datagrams.{kind_under}
 use Rattle.octets_law.proofs.EventSteps.{arp_type, datagram_type}
 use Rattle.field_words.specs.Octets.{octet_at, part_at, type_place, word_at}
 use Rattle.end_laws.proofs.CyclicAccepting.{octets_same}
 use Rattle.end_laws.proofs.CyclicPlaces.{mac_of, read_is_there, there_is_read}
-use Rattle.answers_law.specs.Requests.{Block, IsElsewhere, IsRequest, Station, broadcast_address, data_in, frame_id_in, identify_address, packet, pdu}
+use Rattle.answers_law.specs.Requests.{Block, IsRequest, broadcast_address, data_in, frame_id_in, identify_address, packet, pdu}
 use Rattle.answers_law.proofs.Tests.{differ, no_false, test_same}
-use Rattle.answers_law.proofs.Opened.{IsOpen, meaning_of, open_again, open_takes}
+use Rattle.answers_law.proofs.Opened.{open_again, open_takes}
 use Rattle.answers_law.proofs.Packets.{IsPacket, arp_there, target_there}
-use Rattle.answers_law.proofs.Pdus.{IsFor, IsPdu, asked_at, listed, pdu_again, pdu_takes}
+use Rattle.answers_law.proofs.Pdus.{IsFor, asked_at, listed, pdu_again, pdu_takes}
 
 -- ---- which requests reach a device
 

@@ -1,12 +1,10 @@
 -- What holds of each Option and Suboption that the device tells apart, and of all others, holds of all.
-use Rattle.std.proofs.Common.{◌≡◌, ◌==◌, ◌&&◌, ◌||◌, ◌++◌, ℕ, Bool, true, false, nat_eq, List, [], ◌∷◌, Option, Some, None, refl, sym, ap, subst, ◌∙◌}
+use Rattle.std.proofs.Common.{◌≡◌, ◌==◌, ◌&&◌, ◌||◌, ℕ, true, false, List, [], ◌∷◌, Option, Some, None, refl, sym, ap, subst, ◌∙◌}
 use Rattle.std.proofs.lemmas.Bool.{and_parts, cond-false, eqb-true}
-use Rattle.std.specs.Cmp.Lexicographic.{pointwise}
 use Rattle.pn_values.specs.declared.identity.Identity.{Identity}
 use Rattle.pn_values.specs.declared.settings.Settings.{Settings}
 use Rattle.pn_values.specs.declared.set_item.BlockError.{BlockError}
 use Rattle.pn_values.specs.declared.set_item.BlockError.TheVariants as error
-use Rattle.dcp_core.specs.declared.kind.Kind.{Kind}
 use Rattle.dcp_core.specs.declared.kind.Kind.TheVariants.{AliasName}
 use Rattle.dcp_core.specs.Bytes.{block_bytes, error_number, response_bytes}
 use Rattle.dcp_core.specs.declared.kind.Kind.TheVariants as kinds
@@ -14,7 +12,7 @@ use Rattle.dcp_core.specs.Get.{got}
 use Rattle.dcp_core.specs.Identify.{is_value, kind_matches}
 use Rattle.dcp_core.specs.Kinds.{blame, kind_of, option_of, suboption_of}
 use Rattle.answers_law.specs.Requests.{Block, Station, fits, is_alias}
-use Rattle.answers_law.specs.Answers.{outcome_octets, pair_answer, unknown, value_or_outcome}
+use Rattle.answers_law.specs.Answers.{outcome_octets, pair_answer, value_or_outcome}
 use Rattle.answers_law.specs.Device.{station_of}
 use Rattle.answers_law.proofs.Tests.{by_test}
 

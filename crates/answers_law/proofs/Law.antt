@@ -1,6 +1,6 @@
 -- A step of a device answers what it must, and is silent to all else.
-use Rattle.std.proofs.Common.{◌≡◌, ◌≢◌, ◌⊎◌, inl, inr, ◌+◌, ◌<◌, ◌≤◌, ◌==◌, ◌&&◌, ℕ, Bool, true, false, not, nat_eq, nat_lt, List, [], ◌∷◌, length, take, get_or, Option, Some, None, refl, sym, ap, subst, ◌∙◌, arith}
-use Rattle.std.proofs.lemmas.Bool.{and_from, and_left, and_parts, and_right, eqb-true, lt-ltb, ltb-true}
+use Rattle.std.proofs.Common.{◌≡◌, ◌⊎◌, ◌+◌, ◌<◌, ◌≤◌, ◌==◌, ◌&&◌, ℕ, true, false, not, nat_eq, nat_lt, List, [], ◌∷◌, length, take, get_or, Option, Some, None, refl, sym, ap, subst, ◌∙◌, arith}
+use Rattle.std.proofs.lemmas.Bool.{and_from, and_left, and_parts, eqb-true, lt-ltb, ltb-true}
 use Rattle.std.specs.Cmp.Lexicographic.{pointwise}
 use Rattle.std.specs.List.{list_all}
 use Rattle.arrayvec.specs.ArrayVec.{ArrayVec}
@@ -11,7 +11,7 @@ use Rattle.frame_codec.specs.Arp.{operation_of}
 use Rattle.frame_codec.specs.Frame.{frame_of}
 use Rattle.frame_codec.specs.declared.arp.Arp.{Arp}
 use Rattle.frame_codec.specs.declared.arp.ArpOperation.{ArpOperation}
-use Rattle.frame_codec.specs.declared.arp.ArpOperation.TheVariants.{Reply, Request}
+use Rattle.frame_codec.specs.declared.arp.ArpOperation.TheVariants.{Reply}
 use Rattle.dcp_core.specs.declared.request.Service.{Service}
 use Rattle.dcp_core.specs.declared.request.Service.TheVariants.{Get, Set, Identify}
 use Rattle.dcp_core.specs.Format.{frame_id_of, id_of}
@@ -21,17 +21,17 @@ use Rattle.device_frames.specs.declared.event.Event.TheVariants.{Frame}
 use Rattle.device_frames.specs.declared.note.Note.{Note}
 use Rattle.device_frames.specs.Heard.{Asks, Elsewhere, Heard, Resolves, Unreadable, heard_frame, heard_of}
 use Rattle.device_frames.specs.Sendable.{AreSendable}
-use Rattle.device_core.specs.State.{Live, State, Station as Fixed}
+use Rattle.device_core.specs.State.{State}
 use Rattle.device_core.specs.Handled.{is_request, is_running}
 use Rattle.device_core.specs.Machine.{heard_step}
 use Rattle.device_core.specs.Steps.{Steps}
-use Rattle.field_words.specs.Octets.{part_at, type_place, word_at}
+use Rattle.field_words.specs.Octets.{type_place, word_at}
 use Rattle.end_laws.proofs.CyclicAccepting.{octets_same}
 use Rattle.answers_law.specs.Requests.{Block, IsElsewhere, IsGet, IsIdentify, IsOfOther, IsRequest, IsResolve, IsSet, IsOtherThan, IsUnasked, Profinet, Resolution, Station, Unknown, broadcast_address, data_in, fits, packet, pdu}
 use Rattle.answers_law.specs.Answers.{get_answer, identify_answer, resolve_answer}
 use Rattle.answers_law.specs.Device.{AnswersSet, AreOctets, station_at}
 use Rattle.answers_law.proofs.Tests.{by_test, differ, no_false, some_same, test_same}
-use Rattle.answers_law.proofs.Heard.{Reaches, arp_holds, dcp_holds, ip_holds, none_holds, packet_heard, request_heard, source_of, unknown_holds}
+use Rattle.answers_law.proofs.Heard.{Reaches, arp_holds, dcp_holds, ip_holds, none_holds, packet_heard, request_heard, unknown_holds}
 use Rattle.answers_law.proofs.Packets.{IsPacket, arp_there, asking}
 use Rattle.answers_law.proofs.Pdus.{asked_at, listed}
 use Rattle.answers_law.proofs.Sends.{elsewhere_silent, get_sent, identify_sent, identify_silent, reported_silent, resolve_sent, resolve_silent, sent_at, set_sent, unreadable_silent}

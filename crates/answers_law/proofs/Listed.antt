@@ -1,5 +1,5 @@
 -- Blocks of a request, all together: whether they fit, and what answers them.
-use Rattle.std.proofs.Common.{◌≡◌, ap₂, ◌+◌, ◌<◌, ◌==◌, ◌&&◌, ◌||◌, ℕ, suc, Bool, true, false, nat_lt, List, [], ◌∷◌, ◌++◌, length, map, zip, flat_map, Option, refl, sym, ap, ◌∙◌}
+use Rattle.std.proofs.Common.{◌≡◌, ap₂, ◌==◌, ◌&&◌, ◌||◌, ℕ, suc, Bool, nat_lt, List, [], ◌∷◌, ◌++◌, length, map, zip, flat_map, Option, refl, sym, ap, ◌∙◌}
 use Rattle.std.proofs.lemmas.Bool.{cond-false, cond-true}
 use Rattle.std.proofs.lemmas.List.{map-append}
 use Rattle.std.specs.List.{list_all, list_any}
@@ -7,11 +7,10 @@ use Rattle.pn_values.specs.declared.identity.Identity.{Identity}
 use Rattle.pn_values.specs.declared.settings.Settings.{Settings}
 use Rattle.pn_values.specs.declared.set_item.BlockError.{BlockError}
 use Rattle.dcp_core.specs.declared.kind.Kind.{Kind}
-use Rattle.dcp_core.specs.declared.request.Service.TheVariants.{Identify}
 use Rattle.dcp_core.specs.Bytes.{error_number, response_bytes}
 use Rattle.dcp_core.specs.Get.{firsts_of, got}
 use Rattle.dcp_core.specs.Identify.{kind_matches, matches}
-use Rattle.dcp_core.specs.Kinds.{is_same, kind_of, option_of, suboption_of}
+use Rattle.dcp_core.specs.Kinds.{is_same, kind_of}
 use Rattle.dcp_core.specs.Request.{Asked, AskedBlock}
 use Rattle.answers_law.specs.Requests.{Block, Station, fits}
 use Rattle.answers_law.specs.Answers.{first_pairs, is_same_pair, outcome_octets, pair_answer}

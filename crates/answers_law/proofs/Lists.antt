@@ -1,5 +1,5 @@
 -- The blocks of a request: those of the format are those that are read at fixed places.
-use Rattle.std.proofs.Common.{◌≡◌, ◌+◌, ◌*◌, ◌≤◌, ◌<◌, ◌==◌, ◌%◌, ◌&&◌, ltb, ℕ, zero, suc, Bool, true, false, List, [], ◌∷◌, length, map, take, drop, nat_le, Option, Some, None, Result, Ok, Err, cond, if◌then◌else◌, option_map, refl, sym, ap, subst, ◌∙◌, arith}
+use Rattle.std.proofs.Common.{◌≡◌, ◌+◌, ◌*◌, ◌≤◌, ◌<◌, ◌==◌, ◌%◌, ◌&&◌, ltb, ℕ, zero, suc, Bool, false, List, [], ◌∷◌, length, map, take, drop, nat_le, Option, Some, None, Result, Ok, Err, if◌then◌else◌, option_map, refl, sym, ap, subst, ◌∙◌, arith}
 use Rattle.std.proofs.lemmas.Bool.{and_from, and_parts, cond-false, cond-true, le-leb, le-ltb, leb-false, leb-true, lt-ltb, ltb-false, ltb-true, ne_eqb}
 use Rattle.std.proofs.lemmas.List.{drop-drop, length-drop, length-take-le}
 use Rattle.byteorder.specs.Endian.{big_number}

@@ -7,7 +7,7 @@ use Rattle.pn_values.specs.declared.mac.Mac.{Mac}
 use Rattle.wire.specs.Formats.{number as field, when, ◌⨾◌}
 use Rattle.frame_codec.specs.declared.fault.FrameFault.TheVariants.{TooShort}
 use Rattle.frame_codec.specs.Meaning.{Content, Meaning}
-use Rattle.frame_codec.specs.Frame.{IsFrame, content_under, ethernet, frame_of, layers, longest, mac, tag_and_type, tag_and_type_of}
+use Rattle.frame_codec.specs.Frame.{content_under, ethernet, frame_of, layers, longest, mac, tag_and_type, tag_and_type_of}
 use Rattle.frame_codec.specs.Sendable.{carrying}
 use Rattle.frame_codec.proofs.Frames.{frame_again, frame_takes}
 use Rattle.field_words.specs.Octets.{part_at, type_place, word_at}

@@ -1,11 +1,9 @@
 -- A packet of ARP, and the address that a packet of IPv4 goes to, read at fixed places.
-use Rattle.std.proofs.Common.{◌≡◌, ◌+◌, ◌*◌, ◌-◌, ◌≤◌, ◌==◌, ℕ, Bool, true, false, List, [], ◌∷◌, ◌++◌, length, take, drop, Option, Some, Ok, refl, sym, ap, subst, ◌∙◌, arith}
+use Rattle.std.proofs.Common.{◌≡◌, ◌+◌, ◌≤◌, ◌==◌, ℕ, true, List, [], ◌∷◌, ◌++◌, length, take, drop, Some, Ok, refl, sym, ap, subst, ◌∙◌, arith}
 use Rattle.std.proofs.lemmas.Bool.{eq-eqb, eqb-true, le-ltb}
 use Rattle.std.proofs.lemmas.List.{drop-drop, drop_at, get_or-drop, length-append, length-drop, take_at}
 use Rattle.byteorder.specs.Endian.{big_number}
-use Rattle.pn_values.specs.declared.mac.Mac.{Mac}
 use Rattle.frame_codec.specs.declared.arp.Arp.{Arp}
-use Rattle.frame_codec.specs.declared.arp.ArpOperation.{ArpOperation}
 use Rattle.frame_codec.specs.declared.arp.ArpOperation.TheVariants.{Request}
 use Rattle.frame_codec.specs.declared.arp.Holder.{Holder}
 use Rattle.frame_codec.specs.declared.udp.Endpoint.{Endpoint}

@@ -1,51 +1,42 @@
 -- What a device sends at what it hears.
-use Rattle.std.proofs.Common.{◌≡◌, ◌⊎◌, inl, inr, ◌+◌, ◌<◌, ◌≤◌, ◌==◌, ◌&&◌, ℕ, suc, Bool, true, false, nat_eq, nat_lt, List, [], ◌∷◌, ◌++◌, length, map, zip, take, drop, get_or, flat_map, Option, Some, None, option_map, is_some, refl, sym, ap, ap₂, subst, ◌∙◌, arith}
-use Rattle.std.proofs.lemmas.Bool.{and_from, cond-false, cond-true, cond_both}
+use Rattle.std.proofs.Common.{◌≡◌, inl, inr, ◌+◌, ◌<◌, ◌≤◌, ◌==◌, ◌&&◌, ℕ, suc, Bool, true, false, nat_lt, List, [], ◌∷◌, ◌++◌, length, map, zip, take, drop, get_or, flat_map, Option, Some, None, is_some, refl, sym, ap, ap₂, subst, ◌∙◌, arith}
+use Rattle.std.proofs.lemmas.Bool.{cond-false, cond-true, cond_both}
 use Rattle.std.proofs.lemmas.List.{get_or-drop, length-drop}
 use Rattle.std.specs.Int.{w32, to_be_bytes}
 use Rattle.std.specs.List.{list_all}
 use Rattle.byteorder.specs.Endian.{big_number}
-use Rattle.pn_values.specs.IpSuite.{is_zero}
 use Rattle.pn_values.specs.declared.mac.Mac.{Mac}
-use Rattle.pn_values.specs.declared.command.Command.{Command}
 use Rattle.pn_values.specs.declared.set_item.SetItem.{SetItem}
 use Rattle.pn_values.specs.declared.set_item.SetItem.TheVariants.{Ask, Signal, Answer}
 use Rattle.pn_values.specs.declared.set_item.BlockError.{BlockError}
 use Rattle.frame_codec.specs.declared.arp.Arp.{Arp}
-use Rattle.frame_codec.specs.declared.arp.ArpOperation.{ArpOperation}
-use Rattle.frame_codec.specs.declared.arp.ArpOperation.TheVariants as arp
-use Rattle.frame_codec.specs.declared.arp.Holder.{Holder}
 use Rattle.frame_codec.specs.declared.udp.Caller.{Caller}
 use Rattle.dcp_core.specs.declared.request.Service.TheVariants.{Get, Set, Identify}
-use Rattle.dcp_core.specs.Bytes.{answer_bytes, error_number, response_bytes}
-use Rattle.dcp_core.specs.Get.{firsts_of, get_bytes, got}
-use Rattle.dcp_core.specs.Identify.{identify_bytes, matches}
+use Rattle.dcp_core.specs.Bytes.{answer_bytes, error_number}
+use Rattle.dcp_core.specs.Get.{get_bytes}
+use Rattle.dcp_core.specs.Identify.{matches}
 use Rattle.dcp_core.specs.Request.{Asked, AskedBlock}
 use Rattle.dcp_core.specs.Set.{item_of, plan_of, set_bytes}
-use Rattle.pn_alarms.specs.declared.abort.Abort.TheVariants.{Other}
 use Rattle.pn_alarms.specs.Format.{pdu_bytes}
 use Rattle.relations.specs.declared.farewell.Farewell.{Farewell}
-use Rattle.relations.specs.Farewells.{farewell_of, said_by}
-use Rattle.relations.specs.RelationState.{RelationState}
+use Rattle.relations.specs.Farewells.{said_by}
 use Rattle.settings_journal.specs.settings_store.State.{Values}
 use Rattle.settings_journal.specs.settings_store.Machine.{Outcome, Pass, Fault, Carried, accepted, carried, first_of, rest_of}
 use Rattle.device_frames.specs.declared.note.Note.{Note}
 use Rattle.device_frames.specs.Heard.{Asks, Elsewhere, Heard, Reported, Resolves, Said, Unreadable}
 use Rattle.device_frames.specs.Relation.{farewells_in}
-use Rattle.device_frames.specs.Sendable.{AreSendable, IsSendable}
-use Rattle.device_frames.specs.Sent.{ArpReply, Ends, GetAnswer, IdentifyAnswer, Sent, SetAnswer, answer_frame, bytes_of, reply_frame}
+use Rattle.device_frames.specs.Sendable.{AreSendable}
+use Rattle.device_frames.specs.Sent.{Ends, Sent, SetAnswer, answer_frame, bytes_of}
 use Rattle.device_core.specs.State.{Live, Rest, Station as Fixed, alias_in}
-use Rattle.device_core.specs.Handled.{Handled, Moves, Refuses, Sets, handled, handled_said, is_request, is_running}
+use Rattle.device_core.specs.Handled.{Handled, Moves, Refuses, handled, is_request, is_running}
 use Rattle.device_core.specs.Machine.{farewell_at, handled_step, heard_step, resets}
-use Rattle.field_words.specs.Octets.{part_at, type_place, word_at}
-use Rattle.end_laws.proofs.CyclicAccepting.{octets_same}
+use Rattle.field_words.specs.Octets.{part_at, type_place}
 use Rattle.end_laws.proofs.CyclicPlaces.{tagged_id}
 use Rattle.answers_law.specs.Requests.{Block, Station, fits, packet, pdu, xid_in}
 use Rattle.answers_law.specs.Answers.{answer_octets, first_pairs, get_answer, identify_answer, identity_blocks, outcome_octets, padded, pair_answer, resolve_answer, set_answer}
 use Rattle.answers_law.specs.Device.{AnswersSet, station_at}
-use Rattle.answers_law.proofs.Tests.{differ, test_same}
 use Rattle.answers_law.proofs.Heard.{source_of}
-use Rattle.answers_law.proofs.Listed.{errors_many, many, matched, outcomes_are, pairs_given}
+use Rattle.answers_law.proofs.Listed.{errors_many, matched, outcomes_are, pairs_given}
 use Rattle.answers_law.proofs.Lists.{asked_of}
 use Rattle.answers_law.proofs.Packets.{IsPacket}
 use Rattle.answers_law.proofs.Pdus.{asked_at, two_is}

@@ -1,6 +1,5 @@
 -- Tests, and what follows of each result.
-use Rattle.std.proofs.Common.{◌≡◌, ◌≢◌, ◌==◌, ◌&&◌, ◌||◌, ℕ, Bool, true, false, nat_eq, List, [], ◌∷◌, Option, Some, Result, Ok, Err, if◌then◌else◌, refl, sym, ap, ◌∙◌}
-use Rattle.std.proofs.lemmas.Bool.{eqb-true}
+use Rattle.std.proofs.Common.{◌≡◌, ℕ, Bool, true, false, nat_eq, List, Some, Result, Ok, Err, refl, sym, ap, ◌∙◌}
 use Rattle.std.specs.Cmp.Lexicographic.{pointwise}
 use Rattle.end_laws.proofs.CyclicAccepting.{octets_same, same_octets}
 

@@ -1,5 +1,5 @@
 -- The answers of a station: by DCP (IEC 61158-6-10, 4.3), and by ARP (RFC 826), octet by octet.
-use Rattle.std.specs.Prelude.{◌+◌, ◌-◌, ◌%◌, ◌==◌, ◌&&◌, ◌||◌, ℕ, Bool, List, [], ◌∷◌, ◌++◌, length, replicate, flat_map, zip, Option, Some, None, if◌then◌else◌}
+use Rattle.std.specs.Prelude.{◌-◌, ◌%◌, ◌==◌, ◌&&◌, ◌||◌, ℕ, Bool, List, [], ◌∷◌, ◌++◌, length, replicate, flat_map, zip, Option, Some, None, if◌then◌else◌}
 use Rattle.std.specs.Int.{w16, to_be_bytes}
 use Rattle.std.specs.List.{list_all, list_any}
 use Rattle.field_words.specs.Octets.{part_at}
