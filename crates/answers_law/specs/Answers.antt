@@ -39,6 +39,7 @@ identity_blocks has =
     block_octets 2 1 (0 ∷ 0 ∷ has.kind) ++ block_octets 2 2 (0 ∷ 0 ∷ has.name) ++ block_octets 2 3 (0 ∷ 0 ∷ has.device) ++ block_octets 2 4 (0 ∷ 0 ∷ 1 ∷ 0 ∷ [])
     ++ block_octets 2 5 (0 ∷ 0 ∷ known) ++ block_octets 2 7 (0 ∷ 0 ∷ has.instance) ++ block_octets 1 2 (suite_contents (suite has))
 
+-- The answer to an Identify: FrameID 0xFEFF, ServiceID 5.
 abbrev pub identify_answer : Station → List ℕ → List ℕ
 identify_answer has frame = answer_to has frame 0xFF 5 (identity_blocks has)
 
@@ -85,6 +86,7 @@ first_pairs before [] = []
 first_pairs before (pair ∷ pairs) =
     if list_any (is_same_pair pair) before then first_pairs (before ++ pair ∷ []) pairs else pair ∷ first_pairs (before ++ pair ∷ []) pairs
 
+-- The answer to a Get: FrameID 0xFEFD, ServiceID 3.
 abbrev pub get_answer : Station → List Block → List ℕ → List ℕ
 get_answer has pairs frame = answer_to has frame 0xFD 3 (flat_map (pair_answer has) (first_pairs [] pairs))
 

@@ -88,10 +88,11 @@ pub record IsRequest (id service : ℕ) (frame : List ℕ) : Type 0 where
 
 -- ---- which requests are for a station
 
--- The multicast address of Identify (4.3.1.1.3), and the broadcast address (IEEE 802.3, 3.2.3).
+-- The multicast address of Identify (4.3.1.1.3).
 abbrev pub identify_address : List ℕ
 identify_address = 0x01 ∷ 0x0E ∷ 0xCF ∷ 0 ∷ 0 ∷ 0 ∷ []
 
+-- The address of all stations (IEEE 802.3, 3.2.3).
 abbrev pub broadcast_address : List ℕ
 broadcast_address = 0xFF ∷ 0xFF ∷ 0xFF ∷ 0xFF ∷ 0xFF ∷ 0xFF ∷ []
 
