@@ -4,6 +4,7 @@
 //! Each law is read from octets and from what both ends show, and shares no line with its definition in crates/*/specs.
 #![cfg(test)]
 
+mod answers;
 mod cyclic;
 mod exchange;
 mod inputs;
