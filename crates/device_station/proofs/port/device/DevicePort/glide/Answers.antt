@@ -12,7 +12,7 @@ skip_steady-requires c =
     let port = c.self.inside in
     let few : c.args.units < port.steady.inputs = omega (arith, c.if-units-self.false) in
     let known = c.self.invariant.3 (omega (arith, few)) in
-    (omega arith, omega arith, going_of port.stage _ _ _ known.1 c.self.invariant.2, known.0, few)
+    (omega arith, (omega arith, (going_of port.stage _ _ _ known.1 c.self.invariant.2, (known.0, few))))
 
 pub invariant_of-self : goal.invariant_of-self
 invariant_of-self c =

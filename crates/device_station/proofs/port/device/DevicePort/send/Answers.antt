@@ -11,7 +11,7 @@ pub leap_steady-requires : goal.leap_steady-requires
 leap_steady-requires c =
     let port = c.self.inside in
     let known = c.self.invariant.3 (omega (arith, c.if-inputs-eq0.false)) in
-    (omega arith, omega arith, going_of port.stage _ _ _ known.1 c.self.invariant.2, known.0, omega (arith, c.if-inputs-self.false))
+    (omega arith, (omega arith, (going_of port.stage _ _ _ known.1 c.self.invariant.2, (known.0, omega (arith, c.if-inputs-self.false)))))
 
 pub due_of-requires : goal.due_of-requires
 due_of-requires c = c.leap_steady.ensures.due
