@@ -7,16 +7,12 @@ use Rattle.device_station.proofs.PortSteady.{glides_at}
 use Rattle.device_station.proofs.PortStages.{going_of, steady_of}
 use Rattle.device_station.proofs.port.device.DevicePort.glide.Goals as goal
 
-pub skip_steady-requires-clause-going : goal.skip_steady-requires-clause-going
-skip_steady-requires-clause-going c =
+pub skip_steady-requires : goal.skip_steady-requires
+skip_steady-requires c =
     let port = c.self.inside in
-    let known = c.self.invariant.3 (omega (arith, c.if-units-self.false)) in
-    going_of port.stage _ _ _ known.1 c.self.invariant.2
-
-pub skip_steady-requires-clause-steady : goal.skip_steady-requires-clause-steady
-skip_steady-requires-clause-steady c =
-    let known = c.self.invariant.3 (omega (arith, c.if-units-self.false)) in
-    known.0
+    let few : c.args.units < port.steady.inputs = omega (arith, c.if-units-self.false) in
+    let known = c.self.invariant.3 (omega (arith, few)) in
+    (omega arith, (omega arith, (going_of port.stage _ _ _ known.1 c.self.invariant.2, (known.0, few))))
 
 pub invariant_of-self : goal.invariant_of-self
 invariant_of-self c =

@@ -7,16 +7,11 @@ use Rattle.device_station.proofs.PortSteady.{sends_at}
 use Rattle.device_station.proofs.PortStages.{going_of, steady_of}
 use Rattle.device_station.proofs.port.device.DevicePort.send.Goals as goal
 
-pub leap_steady-requires-clause-going : goal.leap_steady-requires-clause-going
-leap_steady-requires-clause-going c =
+pub leap_steady-requires : goal.leap_steady-requires
+leap_steady-requires c =
     let port = c.self.inside in
     let known = c.self.invariant.3 (omega (arith, c.if-inputs-eq0.false)) in
-    going_of port.stage _ _ _ known.1 c.self.invariant.2
-
-pub leap_steady-requires-clause-steady : goal.leap_steady-requires-clause-steady
-leap_steady-requires-clause-steady c =
-    let known = c.self.invariant.3 (omega (arith, c.if-inputs-eq0.false)) in
-    known.0
+    (omega arith, (omega arith, (going_of port.stage _ _ _ known.1 c.self.invariant.2, (known.0, omega (arith, c.if-inputs-self.false)))))
 
 pub due_of-requires : goal.due_of-requires
 due_of-requires c = c.leap_steady.ensures.due
