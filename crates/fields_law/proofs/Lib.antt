@@ -15,3 +15,4 @@ pub mod ReadingAnnouncement
 pub mod ReadingPlugged
 pub mod ReadingCalls
 pub mod ReadingStates
+pub mod ReadingPackets

@@ -1,5 +1,8 @@
 -- The blocks of Control, Release, Read and Write as a reader finds them (IEC 61158-6-10, 5.2.3 and 5.2.4.5).
-use Rattle.std.specs.Prelude.{◌≡◌, ◌<◌, ℕ, List, drop, length, replicate}
+use Rattle.std.specs.Prelude.{◌≡◌, ◌+◌, ◌<◌, ℕ, List, [], ◌∷◌, drop, length, replicate}
+use Rattle.rpc_core.specs.declared.header.CallHeader.{CallHeader}
+use Rattle.rpc_core.specs.Call.{Asked}
+use Rattle.rpc_core.specs.Response.{Answered}
 use Rattle.connect_blocks.specs.declared.control.ControlBlock.{ControlBlock}
 use Rattle.connect_blocks.specs.declared.plug_control.PlugControlBlock.{PlugControlBlock}
 use Rattle.record_blocks.specs.declared.read_record.IodReadReq.{IodReadReq}
@@ -82,3 +85,54 @@ pub record IsSizedPlugControl (block : PlugControlBlock) : Type 0 where
   pub sequence : block.alarm_sequence_number < 65536
   pub command : block.control_command < 65536
   pub properties : block.control_block_properties < 65536
+
+-- ---- packets of RPC (C706, 12.5; 4.10.3)
+
+-- A packet of this type: rpc_vers 4; ptype; flags1 and flags2; drep of big-endian numbers; serial_hi; object, if_id and act_id; server_boot 0; if_vers 1;
+-- seqnum; opnum; ihint and ahint 0xFFFF; len of the body; fragnum, auth_proto and serial_lo 0.
+pub record IsPacket (octets : List ℕ) (header : CallHeader) (packet_type flag body : ℕ) : Type 0 where
+  pub rpc_vers : number_at 0 1 octets ≡ 4
+  pub ptype : number_at 1 1 octets ≡ packet_type
+  pub flags : octets_at 2 2 octets ≡ flag ∷ 0 ∷ []
+  pub drep : octets_at 4 3 octets ≡ 0 ∷ 0 ∷ 0 ∷ []
+  pub serial_hi : number_at 7 1 octets ≡ 0
+  pub object : octets_at 8 16 octets ≡ header.object
+  pub if_id : octets_at 24 16 octets ≡ header.interface
+  pub act_id : octets_at 40 16 octets ≡ header.activity
+  pub server_boot : number_at 56 4 octets ≡ 0
+  pub if_vers : number_at 60 4 octets ≡ 1
+  pub seqnum : number_at 64 4 octets ≡ header.sequence
+  pub opnum : number_at 68 2 octets ≡ header.operation
+  pub ihint : number_at 70 2 octets ≡ 0xFFFF
+  pub ahint : number_at 72 2 octets ≡ 0xFFFF
+  pub len : number_at 74 2 octets ≡ body
+  pub fragnum : number_at 76 2 octets ≡ 0
+  pub auth_proto : number_at 78 1 octets ≡ 0
+  pub serial_lo : number_at 79 1 octets ≡ 0
+
+-- A request, ptype 0, idempotent (flags1 0x20): ArgsMaximum, ArgsLength, MaximumCount, Offset 0, ActualCount, and the blocks.
+pub record IsRequestPacket (octets : List ℕ) (call : Asked) (blocks : List ℕ) : Type 0 where
+  pub packet : IsPacket octets call.header 0 0x20 (20 + length blocks)
+  pub args_maximum : number_at 80 4 octets ≡ call.args_maximum
+  pub args_length : number_at 84 4 octets ≡ length blocks
+  pub maximum_count : number_at 88 4 octets ≡ call.args_maximum
+  pub offset : number_at 92 4 octets ≡ 0
+  pub actual_count : number_at 96 4 octets ≡ length blocks
+  pub blocks_are : drop 100 octets ≡ blocks
+
+-- A response, ptype 2: PNIOStatus, and the same.
+pub record IsResponsePacket (octets : List ℕ) (answer : Answered) : Type 0 where
+  pub packet : IsPacket octets answer.header 2 0x0A (20 + length answer.blocks)
+  pub error_code : number_at 80 1 octets ≡ answer.status.code
+  pub error_decode : number_at 81 1 octets ≡ answer.status.decode
+  pub error_code_1 : number_at 82 1 octets ≡ answer.status.code1
+  pub error_code_2 : number_at 83 1 octets ≡ answer.status.code2
+  pub args_length : number_at 84 4 octets ≡ length answer.blocks
+  pub maximum_count : number_at 88 4 octets ≡ answer.maximum_count
+  pub offset : number_at 92 4 octets ≡ 0
+  pub actual_count : number_at 96 4 octets ≡ length answer.blocks
+  pub blocks_are : drop 100 octets ≡ answer.blocks
+
+-- The interface of devices, DEA00001-6C97-11D1-8271-00A02442DF7D, and that of controllers, DEA00002 and so on.
+abbrev pub interface_of : ℕ → List ℕ
+interface_of last = 0xDE ∷ 0xA0 ∷ 0x00 ∷ last ∷ 0x6C ∷ 0x97 ∷ 0x11 ∷ 0xD1 ∷ 0x82 ∷ 0x71 ∷ 0x00 ∷ 0xA0 ∷ 0x24 ∷ 0x42 ∷ 0xDF ∷ 0x7D ∷ []

@@ -1,5 +1,14 @@
 //! The blocks of Control, Release, Read and Write, read back.
-ghost use Rattle.std.specs.Prelude.{◌≡◌, ◌<◌, [], ℕ, length};
+ghost use Rattle.std.specs.Prelude.{◌≡◌, ◌≤◌, ◌<◌, ◌^◌, [], ℕ, List, Some, length};
+ghost use Rattle.rpc_core.specs.declared.interface.Interface.{Interface};
+ghost use Rattle.rpc_core.specs.Call.{Asked, call_bytes};
+ghost use Rattle.rpc_core.specs.Response.{Answered, response_bytes};
+ghost use Rattle.rpc_core.specs.Sendable.{IsHeader, IsStatus};
+ghost use Rattle.relations.specs.RelationState.{RelationState};
+ghost use Rattle.relations.specs.Ready.{ready_of};
+ghost use Rattle.controller_messages.specs.declared.request.Request.{Request};
+ghost use Rattle.controller_messages.specs.declared.setup.Setup.{Setup};
+ghost use Rattle.controller_messages.specs.Requests.{header_of};
 ghost use Rattle.connect_blocks.specs.declared.control.ControlBlock.{ControlBlock};
 ghost use Rattle.connect_blocks.specs.declared.plug_control.PlugControlBlock.{PlugControlBlock};
 ghost use Rattle.connect_blocks.specs.PlugControl.{plug_control};
@@ -11,6 +20,7 @@ ghost use Rattle.block_codec.specs.declared.block.Block.TheVariants as is;
 ghost use Rattle.block_codec.specs.Block.{block_bytes};
 ghost use Rattle.block_codec.specs.Writable.{IsControl, IsRecord, IsWritten};
 ghost use Rattle.fields_law.specs.Calls.{IsControlOf, IsPlugControl, IsReadAnswer, IsReadRequest, IsSizedPlugControl, IsWriteAnswer, IsWriteRequest};
+ghost use Rattle.fields_law.specs.Calls.{IsRequestPacket, IsResponsePacket, interface_of};
 
 use block_codec::blocks_are_read;
 
@@ -34,3 +44,15 @@ pub fn calls_are_read_back()
 {
     blocks_are_read();
 }
+
+/// The packets of RPC that both ends write, and whom a controller calls.
+pub fn packets_are_read_back()
+    // A request, and a response.
+    ensures request { (interface : Interface) (call : Asked) (blocks : List ℕ) → IsHeader call.header → call.args_maximum < 256 ^ 4
+        → length blocks ≤ 1372 → call.blocks ≡ Some blocks → IsRequestPacket (call_bytes interface call) call blocks }
+    ensures response { (answer : Answered) → IsHeader answer.header → IsStatus answer.status → answer.maximum_count < 256 ^ 4
+        → length answer.blocks ≤ 1372 → IsResponsePacket (response_bytes answer) answer }
+    // A controller calls the interface of devices, and a device that of controllers.
+    ensures controller { (setup : Setup) (request : Request) → (header_of setup request).interface ≡ interface_of 1 }
+    ensures device { (link : RelationState) → (ready_of link).header.interface ≡ interface_of 2 }
+{}

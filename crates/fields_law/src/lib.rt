@@ -13,7 +13,7 @@ mod reading;
 
 pub use alarms::alarms_are_read_back;
 pub use announcing::announcements_are_read_back;
-pub use calling::calls_are_read_back;
+pub use calling::{calls_are_read_back, packets_are_read_back};
 pub use connecting::{connect_answers_are_read_back, connects_are_read_back};
 pub use listing::{elements_are_read_back, lists_are_read_back, maintenance_is_read_back};
 pub use reading::{answers_are_read_back, records_are_read_back};
