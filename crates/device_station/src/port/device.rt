@@ -139,7 +139,7 @@ impl DevicePort {
             stage: Stage::Made,
             calls_past: 0,
             frames_past: 0,
-            steady: Steady::unknown(),
+            steady: Steady { inputs: 0, held: 0 },
         }
     }
 
@@ -377,6 +377,7 @@ impl DevicePort {
     }
 
     // Handles an event. All work of the step before is fetched.
+    #[inline(always)]
     pub(crate) fn take(&mut self, event: &Event<'_>) -> Note
         requires { barred self.old ≡ None }
         ensures { Takes self.old event.now result self.new }
