@@ -1,5 +1,5 @@
 -- What a port does with what happens.
-use Rattle.std.specs.Prelude.{◌≡◌, ◌≢◌, ◌<◌, ◌≤◌, ◌-◌, true, ℕ, zero, suc, List, [], length, Option, Some, None, Result, Ok, Err}
+use Rattle.std.specs.Prelude.{◌≡◌, ◌≢◌, ◌<◌, ◌≤◌, ◌-◌, true, false, ℕ, zero, suc, List, [], length, Option, Some, None, Result, Ok, Err}
 use Rattle.flash_model.specs.declared.flash.Sector.{Sector}
 use Rattle.pn_values.specs.declared.settings.Settings.{Settings}
 use Rattle.settings_journal.specs.Image.{StartsWith, IsForeign, LeftByDevice}
@@ -44,11 +44,11 @@ PassesOrNot old units (Ok passed) new = (barred old ≡ None) × Passes old unit
 PassesOrNot old units (Err refusal) new = (barred old ≡ Some refusal) × (new ≡ old)
 
 -- Units pass that bring nothing, fewer than are due, with what is due then. No process alarm is open.
-pub record Glides (old : State) (units due : ℕ) (new : State) : Type 0 where
+pub record Glides (old : State) (units told : ℕ) (new : State) : Type 0 where
   pub free : barred old ≡ None
   pub ticks : Ticks units old new
   pub few : units < live_due_in old.device.live
-  pub due : due ≡ live_due_in new.device.live
+  pub due : told ≡ live_due_in new.device.live
   pub after : barred new ≡ None
   pub closed : has_open_alarm old.device.live.rest.link ≡ false
 

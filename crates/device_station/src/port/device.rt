@@ -164,7 +164,10 @@ impl DevicePort {
         ensures open { result ≡ true → barred self.now ≡ None }
         ensures closed { result ≡ true → has_open_alarm self.now.device.live.rest.link ≡ false }
     {
-        self.steady.inputs != 0 && !self.has_frames()
+        if self.steady.inputs == 0 {
+            return false;
+        }
+        !self.has_frames()
     }
 
     // Whether work of the last step remains.
@@ -450,7 +453,10 @@ impl DevicePort {
         ensures calls { result ≡ true → self.now.calls ≡ [] }
         ensures frames { result ≡ true → has_some self.now.frames ≡ true }
     {
-        self.steady.inputs != 0 && self.has_frames()
+        if self.steady.inputs == 0 {
+            return false;
+        }
+        self.has_frames()
     }
 
     // Lets units of time pass with which nothing is due, if it is known that nothing is. Returns what is due then; `None` if they did
@@ -459,7 +465,7 @@ impl DevicePort {
     pub(crate) fn glide(&mut self, units: u32) -> Option<u32>
         ensures { GlidesOrNot self.old units result self.new }
     {
-        if units >= self.steady.inputs || self.has_frames() {
+        if self.has_frames() || units >= self.steady.inputs {
             return None;
         }
         skip_steady(&mut self.device, units, &mut self.steady);
@@ -472,35 +478,25 @@ impl DevicePort {
     pub(crate) fn send(&mut self, units: u32) -> Option<Passed>
         ensures { SendsOrNot self.old units result self.new }
     {
+        if self.has_frames() {
+            return None;
+        }
         let inputs = self.steady.inputs;
-        if inputs == 0 || units < inputs || inputs >= self.steady.held || self.has_frames() {
+        if inputs == 0 {
+            return None;
+        }
+        if units < inputs {
+            return None;
+        }
+        if inputs >= self.steady.held {
             return None;
         }
         leap_steady(&mut self.device, &mut self.steady, &mut self.outbox);
         self.frames_past = 0;
         Some(Passed {
             left: units - inputs,
-            due: self.due_now(),
+            due: due_of(self.steady.inputs, &self.device),
         })
-    }
-
-    // What is due, if this is known.
-    #[inline(always)]
-    fn due_now(&self) -> u32
-        ensures { result ≡ live_due_in self.now.device.live }
-    {
-        if self.steady.inputs == 0 {
-            return self.count();
-        }
-        self.steady.inputs
-    }
-
-    // What is due, asked of each timer.
-    #[inline(never)]
-    fn count(&self) -> u32
-        ensures { result ≡ live_due_in self.now.device.live }
-    {
-        self.device.due()
     }
 
     // Lets units of time pass by leaps, up to the first that sends something.
@@ -557,6 +553,26 @@ impl DevicePort {
         self.steady = self.device.steady();
         self.device.due()
     }
+}
+
+// What is due of a device: these inputs, if their unit is known.
+#[inline(always)]
+fn due_of(inputs: u32, device: &Device<RecordedFlash<4096>, 4096>) -> u32
+    requires { 0 < inputs → live_due_in device.now.live ≡ inputs }
+    ensures { result ≡ live_due_in device.now.live }
+{
+    if inputs == 0 {
+        return count(device);
+    }
+    inputs
+}
+
+// The same, asked of each timer.
+#[inline(never)]
+fn count(device: &Device<RecordedFlash<4096>, 4096>) -> u32
+    ensures { result ≡ live_due_in device.now.live }
+{
+    device.due()
 }
 
 // Why a port reports nothing at this stage.

@@ -603,7 +603,10 @@ impl Port {
         ensures frames { result ≡ true → has_some self.now.port.frames ≡ true }
         ensures own { result ≡ true → self.now.frames ≡ [] }
     {
-        self.rest != 0 && self.port.sends()
+        if self.rest == 0 {
+            return false;
+        }
+        self.port.sends()
     }
 
     /// Whether flash calls of the last step remain.

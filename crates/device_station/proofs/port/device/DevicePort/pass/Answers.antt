@@ -13,7 +13,7 @@ loop-due-init c =
       few = omega arith;
       ticks = subst (λ n. Ticks n port port) none refl;
       free = c.requires;
-      due = omega (arith, c.due-due.ensures.value);
+      due = rw (← c.self.view_is) (omega (arith, c.due-due.ensures.value));
       some = c.due-due.ensures.some;
     }
 

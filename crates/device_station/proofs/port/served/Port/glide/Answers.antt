@@ -1,9 +1,8 @@
 -- Units pass in which the services have no part.
-use Rattle.std.proofs.Common.{◌≡◌, ◌-◌, ◌∙◌, ◌<◌, drop, refl, ap, subst, arith}
+use Rattle.std.proofs.Common.{◌-◌, ◌∙◌, ◌<◌, drop, refl, sym, ap, subst, arith}
 use Rattle.device_core.specs.Leaps.{live_due_in}
 use Rattle.device_station.specs.port.Pace.{IsPaced, caught_up}
 use Rattle.device_station.specs.port.State.{State}
-use Rattle.device_station.specs.port.Steps.{Glides, GlidesOrNot}
 use Rattle.device_station.proofs.ServedBarring.{barred_alone, waits_free}
 use Rattle.device_station.proofs.ServedComposed.{due_calm, passed_paced, passes_calm}
 use Rattle.device_station.proofs.ServedPacing.{due_soonest, few_soonest, resting_of}
@@ -11,10 +10,14 @@ use Rattle.device_station.proofs.ServedTicking.{at}
 use Rattle.device_station.proofs.port.served.Port.glide.Goals as goal
 
 pub invariant_of-self : goal.invariant_of-self
-invariant_of-self c = ?
+invariant_of-self c =
+    let all = c.self.inside in
+    subst (λ (p : State). IsPaced all.rest all.limit p.device.live.values all.services (drop all.frames_past all.own.frames)) (sym c.in_default.ensures) c.self.invariant
 
 pub returns-in_default : goal.returns-in_default
-returns-in_default c = ?
+returns-in_default c =
+    let all = c.self.inside in
+    rw (← c.self.view_is) (ap (λ (p : State). at all.serves p (caught_up (all.limit - all.rest) all.services) (drop all.frames_past all.own.frames)) c.in_default.ensures)
 
 pub invariant_of-self-2 : goal.invariant_of-self-2
 invariant_of-self-2 c =

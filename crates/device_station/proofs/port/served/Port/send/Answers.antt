@@ -1,5 +1,5 @@
 -- Units pass up to the first that sends inputs, in which the services have no part.
-use Rattle.std.proofs.Common.{◌≡◌, ◌-◌, ◌∙◌, ◌<◌, ◌≤◌, drop, refl, ap, subst, arith}
+use Rattle.std.proofs.Common.{◌-◌, ◌∙◌, ◌<◌, drop, sym, ap, subst, arith}
 use Rattle.device_station.specs.port.Pace.{IsPaced, caught_up}
 use Rattle.device_station.specs.port.State.{State}
 use Rattle.device_station.proofs.ServedBarring.{barred_alone, only_frame}
@@ -9,10 +9,17 @@ use Rattle.device_station.proofs.ServedTicking.{at}
 use Rattle.device_station.proofs.port.served.Port.send.Goals as goal
 
 pub invariant_of-self : goal.invariant_of-self
-invariant_of-self c = ?
+invariant_of-self c =
+    let all = c.self.inside in
+    subst (λ (p : State). IsPaced all.rest all.limit p.device.live.values all.services (drop all.frames_past all.own.frames)) (sym c.in_default.ensures) c.self.invariant
 
 pub returns-in_default : goal.returns-in_default
-returns-in_default c = ?
+returns-in_default c =
+    let all = c.self.inside in
+    rw (← c.self.view_is) (ap (λ (p : State). at all.serves p (caught_up (all.limit - all.rest) all.services) (drop all.frames_past all.own.frames)) c.in_default.ensures)
+
+pub overflow_sub-self : goal.overflow_sub-self
+overflow_sub-self c = omega (arith, c.in-Some.ensures.passes.few, c.if-units-self.false)
 
 pub invariant_of-self-2 : goal.invariant_of-self-2
 invariant_of-self-2 c =
