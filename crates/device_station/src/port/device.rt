@@ -139,7 +139,7 @@ impl DevicePort {
             stage: Stage::Made,
             calls_past: 0,
             frames_past: 0,
-            steady: Steady { inputs: 0, held: 0 }, // after a call the outbox would be made on the stack, and moved
+            steady: Steady { inputs: 0, held: 0 },
         }
     }
 
