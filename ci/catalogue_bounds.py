@@ -184,10 +184,36 @@ def address_rows():
     for mac, fault in (("00-11-22-33-44-55", NONE), ("01-11-22-33-44-55", ADDRESS), ("fE-DC-BA-98-76-54", NONE), ("02-00-00-00-00-0", ADDRESS),
                        ("02-00-00-00-00-021", ADDRESS), ("02-00-00-00-00-0g", ADDRESS), *((broken, ADDRESS) for broken in broken_macs())):
         yield changed(lambda catalogue: controller(catalogue).update(MAC=mac)), fault, ""
+    yield from identity_rows(controller)
     yield changed(lambda catalogue: catalogue["Project"].update(NameOfStation="-")), NAME, "Project.NameOfStation"
     yield changed(lambda catalogue: controller(catalogue).update(NameOfStation="-")), NAME, "Project.Controller.NameOfStation"
     yield changed(lambda catalogue: (catalogue["Project"].update(NameOfStation=""), controller(catalogue).update(NameOfStation=""))), NAME, \
         "Project.NameOfStation"
+
+
+def identity_rows(controller):
+    """What the controller says of itself to tools: the last key of Controller, with three keys of its own."""
+    where = "Project.Controller.Identity"
+    own = {"VendorID": 291, "DeviceID": 1110, "DNS_CompatibleName": "pn-plc"}
+    yield changed(lambda catalogue: controller(catalogue).update(Identity=own)), NONE, ""
+    for value in (None, True, 7, "pn-plc", []):
+        yield changed(lambda catalogue: controller(catalogue).update(Identity=value)), KIND, where
+    yield changed(lambda catalogue: controller(catalogue).update(Identity={})), MISSING, where + ".VendorID"
+    for key in own:
+        yield changed(lambda catalogue: controller(catalogue).update(Identity={other: own[other] for other in own if other != key})), MISSING, f"{where}.{key}"
+        yield changed(lambda catalogue: controller(catalogue).update(Identity=dict(own, **{key: []}))), KIND, f"{where}.{key}"
+    for key in ("VendorID", "DeviceID"):
+        for value, fault in ((0, NONE), (65_535, NONE), (65_536, NUMBER), (-1, KIND), ("7", KIND)):
+            yield changed(lambda catalogue: controller(catalogue).update(Identity=dict(own, **{key: value}))), fault, f"{where}.{key}" if fault != NONE else ""
+    for text, fault in (("a", NONE), (" ", NONE), ("~", NONE), ("x" * 25, NONE), ("", NUMBER), ("x" * 26, NUMBER), ("\x1f", NUMBER), ("\x7f", NUMBER), ("pn\u00e4", NUMBER)):
+        yield changed(lambda catalogue: controller(catalogue).update(Identity=dict(own, DNS_CompatibleName=text))), fault, \
+            f"{where}.DNS_CompatibleName" if fault != NONE else ""
+    # It is read after the address of the controller, and before the times; the addresses are judged after all is read.
+    yield changed(lambda catalogue: (controller(catalogue).update(Identity=[]), controller(catalogue).pop("IPAddress"))), MISSING, "Project.Controller.IPAddress"
+    yield changed(lambda catalogue: (controller(catalogue).update(Identity=[], IPAddress="x"))), KIND, where
+    yield changed(lambda catalogue: (controller(catalogue).update(Identity=[]), catalogue["Project"].update(SendClockFactor=0))), KIND, where
+    # Only the controller has this key; elsewhere it is one of the keys that are ignored.
+    yield changed(lambda catalogue: (catalogue.update(Identity=1), catalogue["Project"].update(Identity=1))), NONE, ""
 
 
 def broken_macs():

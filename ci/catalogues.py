@@ -133,7 +133,9 @@ def told_of(catalogue):
     lists = ["lists"] if catalogue["DeviceAccessPointItem"].get("MultipleWriteSupported", False) else []
     parameters = ["parameters"] if catalogue["Project"].get("ParametersAfterPlug", False) else []
     persistent = ["persistent"] if catalogue["Project"].get("PersistentStart", False) else []
-    said = [*goes_on, *releases, *lists, *parameters, *persistent]
+    own = catalogue["Project"]["Controller"].get("Identity")
+    identity = [f"identity {own['VendorID']} {own['DeviceID']} {own['DNS_CompatibleName'].encode().hex()}"] if own else []
+    said = [*goes_on, *releases, *lists, *parameters, *persistent, *identity]
     return [*layouts_of(modules), f"connect {connect_of(catalogue, modules).hex()}", *records_of(catalogue), *said]
 
 

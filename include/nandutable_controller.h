@@ -84,6 +84,14 @@ typedef struct pn_record {
     uint8_t octets[64];
 } pn_record;
 
+/* What a controller says of itself to tools by DCP (Identity). */
+typedef struct pn_identity {
+    uint16_t vendor_id;
+    uint16_t device_id;
+    uint32_t station_type_length; /* 0: tools do not see the controller; else 1 to 25 */
+    uint8_t station_type[28];     /* DeviceVendorValue (DNS_CompatibleName): octets from 0x20 to 0x7E */
+} pn_identity;
+
 /* The plan of a station. pn_plan_read makes it from a catalogue. A host that writes it itself must keep the same rules, which
  * pn_controller_start checks. In addition to those at the fields:
  * - Both names are station names, and not empty.
@@ -125,6 +133,7 @@ typedef struct pn_plan {
     /* not 0 (PersistentStart): the controller sends a Release when its Connect is refused with State conflict, and tries a Write of the start-up, or
      * PrmEnd, that is refused as busy (ErrorDecode 0x80, ErrorCode1 0xC2) again each second, within the patience */
     uint32_t persistent_start;
+    pn_identity identity; /* with a type of station the controller is a DCP station in every state: it answers Identify and Get, and refuses each Set */
 } pn_plan;
 
 /* The neighbour of a controller by LLDP: the texts of its PortID and its ChassisID (a MAC address as `02-00-00-00-00-01`), and the MAC
@@ -176,10 +185,10 @@ typedef struct pn_controller {
 } pn_controller;
 
 #if defined(__cplusplus)
-static_assert(sizeof(pn_plan) == 4300 && sizeof(pn_search) == 268 && sizeof(pn_tool) == 16 && sizeof(pn_target) == 14,
+static_assert(sizeof(pn_plan) == 4336 && sizeof(pn_search) == 268 && sizeof(pn_tool) == 16 && sizeof(pn_target) == 14,
               "another layout than the library's");
 #else
-_Static_assert(sizeof(pn_plan) == 4300 && sizeof(pn_search) == 268 && sizeof(pn_tool) == 16 && sizeof(pn_target) == 14,
+_Static_assert(sizeof(pn_plan) == 4336 && sizeof(pn_search) == 268 && sizeof(pn_tool) == 16 && sizeof(pn_target) == 14,
                "another layout than the library's");
 #endif
 

@@ -12,7 +12,7 @@ extern "C" {
 
 /* The version of the product, and that of its headers. Each of the three libraries compares PN_ABI with its own. */
 #define PN_VERSION "0.1.0"
-#define PN_ABI 10u
+#define PN_ABI 11u
 /* A number from PN_PLAN_JSON on, minus this, is the number of the fault in the documents and in messages of the programs: 1 to 11. */
 #define PN_PLAN_FAULT 32u
 

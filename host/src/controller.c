@@ -185,17 +185,35 @@ static void serve(struct controller *controller, const uint8_t *octets, size_t l
         relation_hear_arp(sender, octets, length);
 }
 
+/* The controller that tools see: all have one address, and the first one with an identity answers. NULL if none has one. */
+static struct relation *find_seen(struct controller *controller)
+{
+    for (unsigned i = 0; i < controller->count; i++)
+        if (controller->relations[i].plan.identity.station_type_length != 0)
+            return &controller->relations[i];
+    return NULL;
+}
+
+/* The controller for which a frame is, or NULL. */
+static struct relation *find(struct controller *controller, const uint8_t *octets, size_t length)
+{
+    if (controller->count == 1)
+        return controller->relations;
+    if (routing_is_request(octets, length))
+        return find_seen(controller);
+    return routing_find(controller->relations, controller->count, octets, length);
+}
+
 static void take_frame(void *context, const uint8_t *octets, size_t length)
 {
     struct controller *controller = context;
-    struct relation *relation = controller->relations;
+    struct relation *relation;
     uint32_t before;
     if (wire_is_service(octets, length) || wire_is_lldp(octets, length)) {
         serve(controller, octets, length);
         return;
     }
-    if (controller->count > 1)
-        relation = routing_find(controller->relations, controller->count, octets, length);
+    relation = find(controller, octets, length);
     if (relation == NULL) {
         controller->others++;
         return;
@@ -991,6 +1009,8 @@ static void open_all(struct controller *controller, const struct options *option
     wire_open(&controller->loop.wire, options->shared.interface);
     wire_take(&controller->loop.wire, controller->relations[0].plan.controller_mac);
     wire_join_nearest(&controller->loop.wire);
+    if (find_seen(controller) != NULL)
+        wire_join_identify(&controller->loop.wire);
     if (options->has_assigned || options->place != NULL)
         say_link(&controller->loop.wire);
     if (options->has_assigned)

@@ -5,7 +5,7 @@
 #include "wire.h"
 #include <string.h>
 
-enum { FRAME_SET = 0xFEFD, FRAME_IDENTIFIED = 0xFEFF };
+enum { FRAME_SET = 0xFEFD, FRAME_IDENTIFY = 0xFEFE, FRAME_IDENTIFIED = 0xFEFF };
 
 /* A relation that sets the address of this station. */
 static int sets_at(const struct relation *relation, const uint8_t *mac)
@@ -31,6 +31,15 @@ static int takes_real_time(const struct relation *relation, const uint8_t *octet
 static int takes_call(const struct relation *relation, const struct calls_numbers *call)
 {
     return call->has_ar ? memcmp(call->ar, relation->ar, 16) == 0 : memcmp(call->activity, relation->activity, 16) == 0;
+}
+
+int routing_is_request(const uint8_t *octets, size_t length)
+{
+    size_t at = wire_frame_id_at(octets, length);
+    unsigned frame_id = wire_frame_id(octets, length);
+    if (at == 0 || length < at + 4)
+        return 0;
+    return frame_id == FRAME_IDENTIFY || (frame_id == FRAME_SET && octets[at + 3] == 0);
 }
 
 struct relation *routing_find(struct relation *relations, unsigned count, const uint8_t *octets, size_t length)

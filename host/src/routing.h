@@ -14,6 +14,9 @@
  * of them here. */
 struct relation *routing_find(struct relation *relations, unsigned count, const uint8_t *octets, size_t length);
 
+/* Whether a frame is a DCP request: an Identify, or a Get or a Set with ServiceType 0. All controllers are one station to tools. */
+int routing_is_request(const uint8_t *octets, size_t length);
+
 /* The relation whose plan has the address of the sender of a packet of ARP, or NULL. */
 struct relation *routing_find_sender(struct relation *relations, unsigned count, const uint8_t *octets, size_t length);
 

@@ -66,6 +66,20 @@ static void takes(const char *what)
     bend_again();
 }
 
+/* Types of station that tools do not accept. */
+static void bend_identities(void)
+{
+    memset(bent.identity.station_type, 'x', sizeof bent.identity.station_type);
+    bent.identity.station_type_length = 25, takes("a type of 25 octets");
+    for (unsigned length = 26; length < 30; length++) {
+        memset(bent.identity.station_type, 'x', sizeof bent.identity.station_type);
+        bent.identity.station_type_length = length, refuses("a long type of station", PN_PLAN_NUMBER);
+    }
+    bent.identity.station_type_length = 0xFFFFFFFF, refuses("a type of station that is far too long", PN_PLAN_NUMBER);
+    bent.identity.station_type_length = 1, bent.identity.station_type[0] = 0x1F, refuses("a type of station that is no text", PN_PLAN_NUMBER);
+    bent.identity.station_type_length = 1, bent.identity.station_type[0] = 0x7F, refuses("a type of station that is no text either", PN_PLAN_NUMBER);
+}
+
 /* Numbers that a catalogue may not have. */
 static void bend_numbers(void)
 {
@@ -153,6 +167,7 @@ static void bend_places(void)
 
 static void bend_plans(void)
 {
+    bend_identities();
     bend_numbers();
     bend_records();
     bend_names_and_addresses();

@@ -230,10 +230,24 @@ def slot(modules, tree):
     return {"slot": place, "target": target, "records": len(records)}
 
 
+def told(tree):
+    """What a controller says of itself to tools."""
+    identity(tree)
+    if not re.fullmatch("[ -~]{1,25}", text_at(tree, "DNS_CompatibleName")):
+        raise Fault(NUMBER, "DNS_CompatibleName")
+
+
+def controller_of(tree):
+    texts = {key: text_at(tree, key) for key in ("NameOfStation", "MAC", "IPAddress")}
+    if "Identity" in tree:
+        at("Identity", told, tree["Identity"])
+    return texts
+
+
 def project(tree, least, modules):
     texts = {key: text_at(tree, key) for key in ("NameOfStation", "IPAddress", "SubnetMask", "Gateway")}
     controller = member(tree, "Controller")
-    texts["Controller"] = at("Controller", lambda: {key: text_at(controller, key) for key in ("NameOfStation", "MAC", "IPAddress")})
+    texts["Controller"] = at("Controller", lambda: controller_of(controller))
     clock = number_at(tree, "SendClockFactor", 1, 128)
     ratio = number_at(tree, "ReductionRatio", 1, 512)
     if clock * ratio < least:

@@ -29,7 +29,8 @@ WANTS = {
         "ReductionRatio": "a whole number from 1 to 512, with SendClockFactor times ReductionRatio at least MinDeviceInterval",
         "DataHoldFactor": "a whole number from 1 to 7,680", "Slots": OBJECTS, "ContinueOnRefusedRecord": FLAG, "ReleaseOnRefusedRecord": FLAG,
         "ParametersAfterPlug": FLAG, "PersistentStart": FLAG},
-    "Controller": {"NameOfStation": TEXT, "MAC": TEXT, "IPAddress": TEXT},
+    "Controller": {"NameOfStation": TEXT, "MAC": TEXT, "IPAddress": TEXT, "Identity": OBJECT},
+    "Identity": {"VendorID": WORD, "DeviceID": WORD, "DNS_CompatibleName": "a string of 1 to 25 characters from space to ~"},
     "Slots": {"Slot": "a whole number", "ModuleItemTarget": TEXT, "Records": OBJECTS},
     "Records": {"Subslot": "a whole number from 1 to 36,863", "Index": "a whole number from 0 to 32,767", "Data": "a string of two hex digits for each octet"}}
 # More keys than these are only counted.

@@ -3,30 +3,34 @@ ghost use Rattle.std.specs.Prelude.{◌≡◌, List, string_bytes};
 ghost use Rattle.wire.specs.Codec.{Gives};
 ghost use Rattle.serde_json.specs.View.{view};
 ghost use Rattle.catalogue.specs.keys.Reader.{Reads};
+ghost use Rattle.plans.specs.Identity.{OwnIdentity};
 ghost use Rattle.catalogue.specs.Modules.{Module};
-ghost use Rattle.catalogue.specs.Projects.{Station, Controller, Project, station, controller, controller_in, reduction, project};
+ghost use Rattle.catalogue.specs.Projects.{Station, Controller, Project, station, controller, controller_in, reduction, project, told, told_as, told_in, typed};
 
 use crate::SlotItem;
 use crate::keys::{
-    CatalogueFault, Key, PlacedFault, Step, flag_at, list, member_at, string, word_at,
+    CatalogueFault, Key, PlacedFault, Step, flag_at, list, member_at, string, text, word_at,
 };
 use crate::module::ModuleTable;
+use plans::ControllerIdentity;
 use serde_json::Value;
 use std::alloc::Global;
 use std::marker::Model;
 
-/// The controller's station name, Ethernet address and IP address, as the catalogue's texts.
+/// The controller's station name, Ethernet address and IP address, as the catalogue's texts, and what it says of itself to tools.
 #[derive(Drop)]
 pub struct ControllerItem {
     pub name: String,
     pub mac: String,
     pub address: String,
+    /// With it the controller is a DCP station.
+    pub identity: Option<ControllerIdentity>,
 }
 
 impl Model for ControllerItem {
     ghost Value = { Controller };
 
-    ghost view = { λ item. record { name = string_bytes item.name; mac = string_bytes item.mac; address = string_bytes item.address } };
+    ghost view = { λ item. record { name = string_bytes item.name; mac = string_bytes item.mac; address = string_bytes item.address; identity = item.identity } };
 }
 
 /// The station's name and IP suite, as the catalogue's texts.
@@ -102,6 +106,55 @@ fn station(alloc: Global, tree: &Value) -> Result<StationItem, PlacedFault>
     })
 }
 
+/// The identity with these parts. The fault is `Number` if the type of station does not have 1 to 25 octets that are printable.
+fn told_as(
+    vendor_id: u16,
+    device_id: u16,
+    station_type: &str,
+) -> Result<ControllerIdentity, PlacedFault>
+    ensures { Reads (λ own. own) result (told_as vendor_id device_id station_type.now) }
+{
+    match ControllerIdentity::new(vendor_id, device_id, station_type.as_bytes()) {
+        Some(own) => Ok(own),
+        None => Err(PlacedFault::at(Key::StationType, CatalogueFault::Number)),
+    }
+}
+
+/// Reads the type of station, and makes the identity with these numbers.
+#[tactic(auto, unfolding(crate::specs::Projects::typed))]
+fn typed(tree: &Value, vendor_id: u16, device_id: u16) -> Result<ControllerIdentity, PlacedFault>
+    ensures { Reads (λ own. own) result (typed vendor_id device_id (view tree.now)) }
+{
+    match text(tree, Key::StationType) {
+        Ok(station_type) => told_as(vendor_id, device_id, station_type),
+        Err(found) => Err(found),
+    }
+}
+
+/// Reads what the controller says of itself to tools from its JSON object.
+#[tactic(auto, unfolding(crate::specs::Projects::told))]
+fn told(tree: &Value) -> Result<ControllerIdentity, PlacedFault>
+    ensures { Reads (λ own. own) result (told (view tree.now)) }
+{
+    let vendor_id = word_at(tree, Key::VendorId, 0, 0xFFFF)?;
+    let device_id = word_at(tree, Key::DeviceId, 0, 0xFFFF)?;
+    typed(tree, vendor_id, device_id)
+}
+
+/// Reads what the controller says of itself to tools from the object at `Identity`. `None` if the key is absent.
+#[tactic(auto, unfolding(crate::specs::Projects::told_in))]
+fn told_in(tree: &Value) -> Result<Option<ControllerIdentity>, PlacedFault>
+    ensures { Reads (λ identity. identity) result (told_in (view tree.now)) }
+{
+    match tree.get(Key::Identity.name()) {
+        None => Ok(None),
+        Some(item) => match told(item) {
+            Ok(own) => Ok(Some(own)),
+            Err(found) => Err(found.further(Step::At(Key::Identity))),
+        },
+    }
+}
+
 /// Reads the controller from its JSON object.
 #[tactic(auto, unfolding(crate::specs::Projects::controller))]
 fn controller(alloc: Global, tree: &Value) -> Result<ControllerItem, PlacedFault>
@@ -110,7 +163,13 @@ fn controller(alloc: Global, tree: &Value) -> Result<ControllerItem, PlacedFault
     let name = string(alloc, tree, Key::NameOfStation)?;
     let mac = string(alloc, tree, Key::Mac)?;
     let address = string(alloc, tree, Key::IpAddress)?;
-    Ok(ControllerItem { name, mac, address })
+    let identity = told_in(tree)?;
+    Ok(ControllerItem {
+        name,
+        mac,
+        address,
+        identity,
+    })
 }
 
 /// Reads the controller from the object at `Controller`.

@@ -49,6 +49,7 @@ parts_of found addresses = record {
   multiple_write = found.access_point.multiple_write;
   parameters_after_plug = found.project.parameters_after_plug;
   persistent_start = found.project.persistent_start;
+  identity = found.project.controller.identity;
 }
 
 -- ---- the whole catalogue

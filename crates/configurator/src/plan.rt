@@ -16,9 +16,19 @@ use crate::place::place_of;
 use crate::records::records_of;
 use crate::station::real_of;
 use crate::{PlanFault, Refusal};
-use catalogue::{Catalogue, read};
-use plans::{Controller, Parts, Plan, Station, Times};
+use catalogue::{Catalogue, ControllerItem, read};
+use plans::{Controller, ControllerIdentity, Parts, Plan, Station, Times};
 use std::alloc::Global;
+
+/// What the controller says of itself to tools, if the project has it.
+fn identity_of(controller: &ControllerItem) -> Option<ControllerIdentity>
+    ensures { result ≡ controller.now.identity }
+{
+    match &controller.identity {
+        Some(own) => Some(own.copy()),
+        None => None,
+    }
+}
 
 /// The parts of which a plan is made.
 fn parts_of(catalogue: &Catalogue, names: Names, addresses: Addresses) -> Parts
@@ -54,6 +64,7 @@ fn parts_of(catalogue: &Catalogue, names: Names, addresses: Addresses) -> Parts
         multiple_write: catalogue.access_point.multiple_write,
         parameters_after_plug: project.parameters_after_plug,
         persistent_start: project.persistent_start,
+        identity: identity_of(&project.controller),
     }
 }
 

@@ -11,7 +11,7 @@ use Rattle.controller_core.specs.declared.stored.state.RefusedRecord.{RefusedRec
 use Rattle.controller_core.specs.Machine.{can_request, end_of, provider_of, report_in}
 use Rattle.controller_messages.specs.Access.{record_of}
 use Rattle.controller_messages.specs.declared.access.Answer.{Answer}
-use Rattle.controller_station.specs.Runs.{after, after_event, sent, sent_at}
+use Rattle.controller_station.specs.Runs.{after, after_event, all_at, sent}
 use Rattle.controller_station.specs.Served.{Frames, Served, in_order}
 use Rattle.cyclic_data.specs.declared.exchange.exchange.ProviderStatus.{ProviderStatus}
 use Rattle.cyclic_data.specs.exchange.Process.{value_at}
@@ -42,7 +42,7 @@ after_both served (one ∷ front) back = after_both (after_event served one) fro
 
 sent_both : (served : Served) (front back : List Event) → sent served (front ++ back) ≡ sent served front ++ sent (after served front) back
 sent_both served [] back = refl
-sent_both served (one ∷ front) back = ap (λ (frames : List Frames). sent_at served one ∷ frames) (sent_both (after_event served one) front back)
+sent_both served (one ∷ front) back = ap (λ (frames : List Frames). all_at served one ∷ frames) (sent_both (after_event served one) front back)
 
 pub all_sent_both : (served : Served) (front back : List Event) → all_sent served (front ++ back) ≡ all_sent served front ++ all_sent (after served front) back
 all_sent_both served front back = ap (flat_map in_order) (sent_both served front back) ∙ flat_map-append in_order (sent served front) (sent (after served front) back)

@@ -22,7 +22,7 @@ use Rattle.c_layout.specs.Modules.{is_module, is_submodule, module_of, submodule
 use Rattle.controller_abi.specs.declared.plan.WrittenPlan.{WrittenPlan}
 use Rattle.controller_abi.specs.declared.plan.WrittenRecord.{WrittenRecord}
 use Rattle.controller_abi.specs.Plans.{IsShort, IsWritten, are_addresses, are_low, are_named, are_numbers, are_ordered, are_placed, are_times, does_take, fault_of_length, has_room, is_name, is_part, is_plan, length_number}
-use Rattle.controller_abi.specs.Plans.{is_record, record_of, is_rising, is_sound, is_written, controller_name_in, modules_in, name_in, parts_of, records_in, suite_in}
+use Rattle.controller_abi.specs.Plans.{is_record, record_of, is_rising, is_sound, is_written, controller_name_in, is_told, modules_in, name_in, parts_of, records_in, suite_in}
 
 -- ---- numbers in order
 
@@ -171,7 +171,8 @@ all_parts written is =
     let fifth = and_parts (are_placed written) (are_low written) fourth.1 in
     let room = and_parts (nat_le written.module_count 16) (list_all is_module modules && nat_le written.record_count 32) first.0 in
     let lists = and_parts (list_all is_module modules) (nat_le written.record_count 32) room.1 in
-    let numbers = and_parts (are_times written) (list_all is_sound modules && records) second.0 in
+    let told = and_parts (is_told written.identity) (are_times written && (list_all is_sound modules && records)) second.0 in
+    let numbers = and_parts (are_times written) (list_all is_sound modules && records) told.1 in
     let sound = and_parts (list_all is_sound modules) records numbers.1 in
     let placed = and_parts (are_ordered modules) past fifth.0 in
     let ordered = all_ordered modules placed.0 in

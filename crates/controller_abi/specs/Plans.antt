@@ -1,9 +1,10 @@
 -- The plan of a station, as a host writes it.
-use Rattle.std.specs.Prelude.{◌≡◌, ◌&&◌, ◌+◌, ◌%◌, ◌==◌, ◌≤◌, ℕ, Bool, true, false, nat_le, nat_lt, not, if◌then◌else◌, Option, Some, None, Result, Ok, Err, List, [], ◌∷◌, take, map, slice_index}
+use Rattle.std.specs.Prelude.{◌≡◌, ◌&&◌, ◌||◌, ◌+◌, ◌%◌, ◌==◌, ◌≤◌, ℕ, Bool, true, false, nat_le, nat_lt, not, if◌then◌else◌, Option, Some, None, is_some, Result, Ok, Err, List, [], ◌∷◌, take, map, slice_index}
 use Rattle.std.specs.List.{AllByRecursion, list_all, list_any}
 use Rattle.uuid.specs.Parts.{is_nil_bytes}
 use Rattle.pn_values.specs.IpSuite.{Suite, is_host, is_suite}
 use Rattle.station_names.specs.Valid.{is_station_name}
+use Rattle.plans.specs.Identity.{OwnIdentity, is_station_type}
 use Rattle.plans.specs.Plan.{plan_of}
 use Rattle.plans.specs.declared.parts.Parts.{Parts}
 use Rattle.plans.specs.declared.parts.PlanRecord.{PlanRecord}
@@ -14,6 +15,7 @@ use Rattle.c_layout.specs.declared.plugged.Module.{Module}
 use Rattle.c_layout.specs.declared.plugged.Parameter.{Parameter}
 use Rattle.c_layout.specs.declared.plugged.Submodule.{Submodule}
 use Rattle.c_layout.specs.Modules.{are_parameters, is_module, module_of, parameters_in, submodules_in}
+use Rattle.controller_abi.specs.declared.plan.WrittenIdentity.{WrittenIdentity}
 use Rattle.controller_abi.specs.declared.plan.WrittenPlan.{WrittenPlan}
 use Rattle.controller_abi.specs.declared.plan.WrittenRecord.{WrittenRecord}
 
@@ -84,10 +86,22 @@ does_take entry plugged = plugged.slot == entry.slot && list_any (does_part_take
 abbrev pub is_record : List Module → WrittenRecord → Bool
 is_record modules entry = nat_le entry.length 64 && list_any (does_take entry) modules
 
--- Times, modules and records.
+-- What the controller says of itself to tools: nothing if its type of station is not one of 1 to 25 printable octets.
+abbrev pub own_of : WrittenIdentity → Option OwnIdentity
+own_of identity =
+    let octets = take identity.station_type_length identity.station_type in
+    if is_station_type octets
+    then Some (record { vendor_id = identity.vendor_id; device_id = identity.device_id; station_type = octets }) else None
+
+-- Whether the controller is no DCP station, or has a type of station.
+abbrev pub is_told : WrittenIdentity → Bool
+is_told identity = identity.station_type_length == 0 || is_some (own_of identity)
+
+-- What the controller says of itself, times, modules and records.
 abbrev pub are_numbers : WrittenPlan → Bool
 are_numbers written =
-    are_times written && (list_all is_sound (modules_in written) && list_all (is_record (modules_in written)) (records_in written))
+    is_told written.identity
+    && (are_times written && (list_all is_sound (modules_in written) && list_all (is_record (modules_in written)) (records_in written)))
 
 -- Whether octets of this length are a station name.
 abbrev pub is_name : ℕ → List ℕ → Bool
@@ -150,6 +164,7 @@ parts_of written = record {
   multiple_write = not (written.multiple_write == 0);
   parameters_after_plug = not (written.parameters_after_plug == 0);
   persistent_start = not (written.persistent_start == 0);
+  identity = own_of written.identity;
 }
 
 -- ---- the same, in the form in which it is used
@@ -203,5 +218,5 @@ is_plan written = fault_of written == 0
 -- plan, or an ARUUID that is zero.
 abbrev pub why_not_made : ℕ → ℕ → ℕ → WrittenPlan → List ℕ → ℕ
 why_not_made size abi op_size written ar =
-    if not (abi == 10 && op_size == 1680) then 2 else
+    if not (abi == 11 && op_size == 1680) then 2 else
     (if nat_lt size 40960 then 3 else (if not (is_plan written) then 16 else (if is_nil_bytes ar then 16 else 0)))

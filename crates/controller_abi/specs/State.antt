@@ -9,7 +9,7 @@ use Rattle.controller_core.specs.Machine.{before_start, opening_of, step_of}
 use Rattle.controller_core.specs.stored.Opening.{IsClosed}
 use Rattle.controller_core.specs.stored.State.{Controlling}
 use Rattle.controller_station.specs.Beside.{Beside, beside_at}
-use Rattle.controller_station.specs.Served.{Served, beside, services_after}
+use Rattle.controller_station.specs.Served.{Served, beside, services_after, told_at}
 use Rattle.controller_station.specs.Leaps.{served_due_in}
 
 -- The controller and what is beside it, the frames of their last step that the host has not fetched yet, and whether the host
@@ -44,7 +44,8 @@ abbrev pub after : State → Event → State
 after old event = record {
   controller = (step_of old.controller event).controller;
   services = services_after old.services event (step_of old.controller event).frames;
-  frames = (step_of old.controller event).frames ++ beside old.services event (step_of old.controller event).frames;
+  frames = (step_of old.controller event).frames
+      ++ told_at old.controller.setup.plan event (step_of old.controller event).frames (beside old.services event (step_of old.controller event).frames);
   is_started = old.is_started;
 }
 

@@ -16,7 +16,7 @@ mod tool;
 pub use asking::{find, hear, name, outcome};
 pub use host::{Asked, Host, play};
 pub use law::requests_have_numbers_of_their_own;
-pub use plan::{WrittenPlan, WrittenRecord, fault_in, judge, start, unstarted};
+pub use plan::{WrittenIdentity, WrittenPlan, WrittenRecord, fault_in, judge, start, unstarted};
 pub use port::Port;
 pub use reading::{WrittenTarget, read, record};
 pub use serving::serve;

@@ -15,7 +15,7 @@ ghost use Rattle.controller_abi.specs.Plans.{does_part_take, does_take, fault_of
 ghost use Rattle.controller_abi.specs.Plans.{has_room as has_all_room, is_item, is_name as is_named, is_part};
 ghost use Rattle.controller_abi.specs.Plans.{is_plan as is_planned, is_record, is_rising, is_sound as is_all_sound};
 ghost use Rattle.controller_abi.specs.Plans.{is_written as is_all_written, modules_in, name_in, options_in, parts_of, record_of, records_in};
-ghost use Rattle.controller_abi.specs.Plans.{suite_in, why_not_made};
+ghost use Rattle.controller_abi.specs.Plans.{is_told, own_of, suite_in, why_not_made};
 
 use crate::port::Port;
 use arrayvec::ArrayVec;
@@ -24,13 +24,16 @@ use c_layout::{
     are_parameters, modules,
 };
 use controller_core::ControllerOptions;
-use plans::{Controller, Parts, Plan, PlanRecord, Station, Times, TooLong, too_long};
+use plans::{
+    Controller, ControllerIdentity, Parts, Plan, PlanRecord, Station, Times, TooLong, too_long,
+};
 use pn_values::{IpSuite, Mac, Real, StationName};
 use station_names::check;
 use uuid::Uuid;
+use wire::at_most;
 
 /// The version of the header.
-const ABI: u32 = 10;
+const ABI: u32 = 11;
 
 /// The number of octets of the memory for a port.
 const ROOM: usize = 40960;
@@ -62,6 +65,17 @@ pub struct WrittenRecord {
     pub index: u16,
     pub length: u16,
     pub octets: [u8; 64],
+}
+
+/// What the controller says of itself to tools by DCP.
+#[repr(C)]
+#[derive(Drop)]
+pub struct WrittenIdentity {
+    pub vendor_id: u16,
+    pub device_id: u16,
+    /// The number of octets of the type of station, 1 to 25. 0: the controller is no DCP station.
+    pub station_type_length: u32,
+    pub station_type: [u8; 28],
 }
 
 /// The plan of a station.
@@ -102,6 +116,8 @@ pub struct WrittenPlan {
     pub parameters_after_plug: u32,
     /// Whether the controller sends a Release when its Connect is refused with State conflict: 0 for no.
     pub persistent_start: u32,
+    /// What the controller says of itself to tools by DCP, if it is a DCP station.
+    pub identity: WrittenIdentity,
 }
 
 /// Why no controller is made from this plan, or 0: another version or size of an operation than the library's, too
@@ -217,7 +233,17 @@ fn are_numbers(written: &WrittenPlan) -> bool
 {
     let modules = &written.modules[..written.module_count as usize];
     let records = &written.records[..written.record_count as usize];
-    are_times(written) && are_sound(modules) && are_records(records, modules)
+    is_told(&written.identity)
+        && are_times(written)
+        && are_sound(modules)
+        && are_records(records, modules)
+}
+
+// Whether the controller is no DCP station, or its type of station is one.
+fn is_told(identity: &WrittenIdentity) -> bool
+    ensures { result ≡ is_told identity.now }
+{
+    identity.station_type_length == 0 || identity_of(identity).is_some()
 }
 
 fn are_times(written: &WrittenPlan) -> bool
@@ -476,7 +502,8 @@ fn planned(written: &WrittenPlan) -> Plan
     Plan::judged(parts_in(written))
 }
 
-// The parts of the plan, each in its range.
+// The parts of the plan, each in its range. It is inlined for the same reason.
+#[inline(always)]
 fn parts_in(written: &WrittenPlan) -> Parts
     requires { IsWritten written.now }
     ensures value { result ≡ parts_of written.now }
@@ -494,7 +521,19 @@ fn parts_in(written: &WrittenPlan) -> Parts
         multiple_write: written.multiple_write != 0,
         parameters_after_plug: written.parameters_after_plug != 0,
         persistent_start: written.persistent_start != 0,
+        identity: identity_of(&written.identity),
     }
+}
+
+// What the controller says of itself to tools. None if its type of station is not one.
+fn identity_of(identity: &WrittenIdentity) -> Option<ControllerIdentity>
+    ensures { result ≡ own_of identity.now }
+{
+    let octets = at_most(
+        &identity.station_type,
+        identity.station_type_length as usize,
+    );
+    ControllerIdentity::new(identity.vendor_id, identity.device_id, octets)
 }
 
 fn station_in(written: &WrittenPlan) -> Station

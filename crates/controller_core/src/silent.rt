@@ -1,6 +1,7 @@
 //! Events that send nothing, and after which nothing is due earlier: cyclic frames, and outputs that are set.
 ghost use Rattle.std.specs.Prelude.{◌≡◌, ◌≤◌, ℕ, List, Ok, false, true};
 ghost use Rattle.frame_codec.specs.Frame.{frame_of};
+ghost use Rattle.frame_codec.specs.FrameId.{is_cyclic};
 ghost use Rattle.frame_codec.specs.Meaning.{meaning_as};
 ghost use Rattle.controller_core.specs.declared.stored.event.Event.TheVariants.{Frame, Give};
 ghost use Rattle.controller_core.specs.Leaps.{live_due_in};
@@ -32,6 +33,7 @@ impl Controller {
     fn take_real_time(&mut self, frame: &RealTimeFrame<'_>) -> bool
         ensures taken { (octets : List ℕ) → frame_of octets ≡ Ok (meaning_as frame.now) → result ≡ true →
             IsSilentStep self.old (Frame (record { items = octets })) self.new }
+        ensures cyclic { result ≡ true → is_cyclic frame.now.frame_id ≡ true }
         ensures left { result ≡ false → self.new ≡ self.old }
         ensures setup { self.new.setup ≡ self.old.setup }
         ensures due { live_due_in self.old.live ≤ live_due_in self.new.live }

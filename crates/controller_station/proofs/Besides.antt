@@ -18,7 +18,8 @@ use Rattle.controller_core.specs.declared.stored.event.Event.TheVariants.{Frame 
 use Rattle.controller_core.specs.Machine.{step_of}
 use Rattle.controller_core.specs.stored.State.{Controlling}
 use Rattle.controller_station.specs.Beside.{Beside, is_real_time, met, overheard}
-use Rattle.controller_station.specs.Served.{Frames, Served, after_frame, beside, beside_frame, by_services, is_sought, no_frames, only, services_after}
+use Rattle.controller_station.specs.Runs.{sent_at}
+use Rattle.controller_station.specs.Served.{Served, after_frame, beside, beside_frame, by_services, is_sought, no_frames, only, services_after}
 use Rattle.controller_station.proofs.Ticks.{few_by_tick, few_in}
 
 -- ---- what the services of the IP address are does not change
@@ -100,19 +101,12 @@ unfolding heard_of
 arp_unheard controller octets meaning packet e f = rw (e, f) (either_nothing (pointwise nat_eq meaning.destination.octets controller.mac.octets))
 
 -- To what it drops it sends nothing.
-silent : (old : Controlling) (octets : List ℕ) → heard_of old.setup.plan.controller octets ≡ Nothing → (step_of old (Framed (record { items = octets }))).frames ≡ []
+pub silent : (old : Controlling) (octets : List ℕ) → heard_of old.setup.plan.controller octets ≡ Nothing → (step_of old (Framed (record { items = octets }))).frames ≡ []
 unfolding step_of
 silent old octets e = rw e refl
 
--- All that is sent at an event.
-abbrev pub sent_for : Served → Event → Frames
-sent_for served event = record {
-  controller = (step_of served.controller event).frames;
-  services = beside served.services event (step_of served.controller event).frames;
-}
-
 module _ (served : Served) (as_controller : served.services.ip.role ≡ role.Controller) (as_mac : served.services.ip.mac ≡ served.controller.setup.plan.controller.mac) (as_address : served.services.ip.address ≡ served.controller.setup.plan.controller.address) (octets : List ℕ) where
-  pub alone_sent : heard_of served.controller.setup.plan.controller octets ≡ Nothing → sent_for served (Framed (record { items = octets })) ≡ only (answer_to served.services.ip octets)
+  pub alone_sent : heard_of served.controller.setup.plan.controller octets ≡ Nothing → sent_at served (Framed (record { items = octets })) ≡ only (answer_to served.services.ip octets)
   alone_sent e = rw (silent served.controller octets e) refl
 
   same_sought : (destination : Mac) (packet : Arp) → sought_of served.services.ip destination packet ≡ is_sought served destination packet
@@ -123,12 +117,12 @@ module _ (served : Served) (as_controller : served.services.ip.role ≡ role.Con
     unfolding answer_to
     arp_is = rw (e, f) refl
 
-    arp_alone : sent_for served (Framed (record { items = octets })) ≡ only (arp_answer served.services.ip meaning.destination meaning.source packet)
+    arp_alone : sent_at served (Framed (record { items = octets })) ≡ only (arp_answer served.services.ip meaning.destination meaning.source packet)
     arp_alone = alone_sent (arp_unheard served.controller.setup.plan.controller octets meaning packet e f) ∙ ap only arp_is
 
-    pub arp_answered : is_sought served meaning.destination packet ≡ true → sent_for served (Framed (record { items = octets }))
+    pub arp_answered : is_sought served meaning.destination packet ≡ true → sent_at served (Framed (record { items = octets }))
         ≡ by_services (frame_bytes (arp_reply_of served.controller.setup.plan.controller.mac served.controller.setup.plan.controller.address meaning.source packet.sender))
     arp_answered sought = arp_alone ∙ rw (same_sought meaning.destination packet ∙ sought, as_mac, as_address) refl
 
-    pub arp_dropped : is_sought served meaning.destination packet ≡ false → sent_for served (Framed (record { items = octets })) ≡ no_frames
+    pub arp_dropped : is_sought served meaning.destination packet ≡ false → sent_at served (Framed (record { items = octets })) ≡ no_frames
     arp_dropped sought = arp_alone ∙ rw (same_sought meaning.destination packet ∙ sought) refl

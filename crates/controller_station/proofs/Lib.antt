@@ -1,6 +1,8 @@
 pub mod RealTime
+pub mod Telling
 pub mod Ticks
 pub mod Besides
+pub mod Told
 pub mod Leaping
 pub mod Order
 pub mod Running

@@ -1,12 +1,15 @@
 -- A controller, and all that is beside it.
 use Rattle.std.specs.Prelude.{◌≡◌, ◌++◌, ◌&&◌, ◌||◌, not, ℕ, Bool, List, [], ◌∷◌, drop, Option, Some, None, nat_eq}
 use Rattle.std.specs.Cmp.Lexicographic.{pointwise}
+use Rattle.std.specs.List.{cons_option}
 use Rattle.pn_values.specs.declared.mac.Mac.{Mac}
 use Rattle.pn_values.specs.IpSuite.{is_zero}
 use Rattle.frame_codec.specs.declared.arp.Arp.{Arp}
 use Rattle.services.specs.State.{broadcast, frames_in}
 use Rattle.services.specs.Answer.{answer_to, is_request}
 use Rattle.plans.specs.declared.parts.Controller.{Controller}
+use Rattle.plans.specs.declared.parts.Parts.{Parts}
+use Rattle.controller_dcp.specs.Station as dcp
 use Rattle.controller_messages.specs.declared.setup.Setup.{Setup}
 use Rattle.controller_core.specs.declared.stored.event.Event.{Event}
 use Rattle.controller_core.specs.declared.stored.event.Event.TheVariants.{Frame, Tick, Give, Status, Read, Write, Stop}
@@ -19,7 +22,7 @@ pub record Served : Type 0 where
   pub controller : Controlling
   pub services : Beside
 
--- The frames that an event sends: those of the controller, and those of the services, which are sent after them.
+-- The frames that an event sends: those of the controller, and those of what is beside it, which are sent after them.
 pub record Frames : Type 0 where
   pub controller : List (List ℕ)
   pub services : List (List ℕ)
@@ -41,7 +44,7 @@ no_frames = record { controller = []; services = [] }
 abbrev pub only : Option (List ℕ) → Frames
 only answer = record { controller = []; services = frames_in answer }
 
--- Only the services send, and only this frame.
+-- Only what is beside sends, and only this frame.
 abbrev pub by_services : List ℕ → Frames
 by_services frame = record { controller = []; services = frame ∷ [] }
 
@@ -81,6 +84,29 @@ services_after services (Status slot subslot is_good) frames = services
 services_after services (Read slot subslot index) frames = services
 services_after services (Write slot subslot index octets) frames = services
 services_after services Stop frames = services
+
+-- ---- the controller as a DCP station
+
+-- What is sent beside for a frame to which the controller and its services send these frames: if both send none, the answer of the
+-- controller as a DCP station, which depends on its plan and the frame alone.
+abbrev pub told_frame : Parts → List ℕ → List (List ℕ) → List (List ℕ) → List (List ℕ)
+told_frame plan octets [] [] = cons_option (dcp.answer_to plan octets) []
+told_frame plan octets [] (frame ∷ frames) = frame ∷ frames
+told_frame plan octets (frame ∷ frames) services = services
+
+-- What is sent beside at an event at which the controller of this plan and its services send these frames: only frames are answered.
+abbrev pub told_at : Parts → Event → List (List ℕ) → List (List ℕ) → List (List ℕ)
+told_at plan (Frame octets) controller services = told_frame plan octets.items controller services
+told_at plan Tick controller services = services
+told_at plan (Give slot subslot value) controller services = services
+told_at plan (Status slot subslot is_good) controller services = services
+told_at plan (Read slot subslot index) controller services = services
+told_at plan (Write slot subslot index octets) controller services = services
+told_at plan Stop controller services = services
+
+-- All frames that an event sends, if the controller of this plan and its services send these.
+abbrev pub answered : Parts → Event → Frames → Frames
+answered plan event sent = record { controller = sent.controller; services = told_at plan event sent.controller sent.services }
 
 -- ---- what is answered, by the plan
 

@@ -1,5 +1,5 @@
 //! A controller and what is beside it.
-ghost use Rattle.std.specs.Prelude.{◌≡◌, ◌+◌, ◌<◌, ◌≤◌, [], ◌∷◌, ℕ, List, true, false, length, option_map};
+ghost use Rattle.std.specs.Prelude.{◌≡◌, ◌+◌, ◌<◌, ◌≤◌, [], ◌∷◌, ℕ, List, None, Some, true, false, length, option_map};
 ghost use Rattle.frame_codec.specs.declared.arp.Arp.{Arp};
 ghost use Rattle.frame_codec.specs.Frame.{frame_bytes, frame_of};
 ghost use Rattle.frame_codec.specs.Meaning.{ArpPacket, Meaning};
@@ -14,8 +14,9 @@ ghost use Rattle.controller_core.specs.Machine.{before_start, opening_of, step_o
 ghost use Rattle.controller_core.specs.stored.Opening.{IsClosed};
 ghost use Rattle.controller_core.specs.declared.stored.event.Event.TheVariants.{Frame as Framed, Give as Given};
 ghost use Rattle.controller_station.specs.Beside.{beside_at, due_in, ticks_of};
-ghost use Rattle.controller_station.specs.Served.{after_frame, begun, beside, beside_frame, by_services, is_sought, no_frames, only, services_after};
-ghost use Rattle.controller_station.specs.Runs.{IsSilent};
+ghost use Rattle.controller_dcp.specs.Station.{answer_to as told_to};
+ghost use Rattle.controller_station.specs.Served.{after_frame, answered, begun, beside, beside_frame, by_services, is_sought, no_frames, only, services_after, told_at, told_frame};
+ghost use Rattle.controller_station.specs.Runs.{IsSilent, all_at, sent_at};
 ghost use Rattle.controller_station.specs.Leaps.{NoneSends, OnlyTheLastSends, sent_beside, sent_by, served_due_in, ticked_by};
 
 use crate::{ControllerServices, ServedOutbox};
@@ -162,9 +163,9 @@ impl ServedController {
         // The controller sends what the controller alone sends, in the same order.
         ensures frames { outbox.new.controller ≡ (step_of self.old.controller event.now).frames }
         // For a frame the services of the IP address send their answer, and nothing if the controller sends anything. In a
-        // tick they send theirs, and LLDP follows if it is due.
-        ensures beside { outbox.new.services
-            ≡ beside self.old.services event.now (step_of self.old.controller event.now).frames }
+        // tick they send theirs, and LLDP follows if it is due. If neither sends anything for a frame, the DCP station does, if
+        // the frame is a request that it answers.
+        ensures beside { outbox.new ≡ all_at self.old event.now }
         // At most two frames are sent beside.
         ensures few { length outbox.new.services ≤ 2 }
         // Whatever the controller does: a request of ARP for its address, to it or to all, is answered by this reply, and
@@ -177,10 +178,16 @@ impl ServedController {
         ensures arp_dropped { (octets : List ℕ) (meaning : Meaning) (packet : Arp) → event.now ≡ Framed (record { items = octets }) →
             frame_of octets ≡ Ok meaning → meaning.content ≡ ArpPacket packet → is_sought self.old meaning.destination packet ≡ false →
             outbox.new ≡ no_frames }
-        // What the controller drops goes to the services, and their answer is all that is sent.
+        // What the controller drops goes to the services, and their answer is all that is sent, but for answers of the DCP station.
         ensures dropped { (octets : List ℕ) → event.now ≡ Framed (record { items = octets }) →
             heard_of self.old.controller.setup.plan.controller octets ≡ Nothing →
-            outbox.new ≡ only (answer_to self.old.services.ip octets) }
+            outbox.new ≡ answered self.old.controller.setup.plan event.now (only (answer_to self.old.services.ip octets)) }
+        // In every state: a request that the DCP station of the plan answers is answered by this frame, and by nothing else.
+        ensures told { (octets frame : List ℕ) → event.now ≡ Framed (record { items = octets }) →
+            told_to self.old.controller.setup.plan octets ≡ Some frame → outbox.new ≡ by_services frame }
+        // For any other frame the DCP station sends nothing.
+        ensures untold { (octets : List ℕ) → event.now ≡ Framed (record { items = octets }) →
+            told_to self.old.controller.setup.plan octets ≡ None → outbox.new ≡ sent_at self.old event.now }
     {
         advance(
             &mut self.controller,
@@ -284,6 +291,7 @@ fn restart(services: &mut ControllerServices, plan: &Plan)
 }
 
 /// One event at the controller, and then beside it.
+#[tactic(auto, using(crate::proofs::Besides::plan_kept))]
 fn advance(
     controller: &mut Controller,
     services: &mut ControllerServices,
@@ -294,12 +302,15 @@ fn advance(
     ensures controller { controller.new ≡ (step_of controller.old event.now).controller }
     ensures services { services.new ≡ services_after services.old event.now (step_of controller.old event.now).frames }
     ensures frames { boxed sent.new ≡ (step_of controller.old event.now).frames }
-    ensures beside { boxed outbox.new ≡ beside services.old event.now (step_of controller.old event.now).frames }
+    ensures beside { boxed outbox.new ≡ told_at controller.old.setup.plan event.now (step_of controller.old event.now).frames
+        (beside services.old event.now (step_of controller.old event.now).frames) }
 {
     controller.step(event, sent);
     outbox.clear();
     match event {
-        Event::Frame(bytes) => hear_beside(services, bytes.as_slice(), sent, outbox),
+        Event::Frame(bytes) => {
+            hear_beside(services, controller.plan(), bytes.as_slice(), sent, outbox)
+        }
         Event::Tick => services.tick(outbox),
         Event::Give(_, _, _)
         | Event::Status(_, _, _)
@@ -347,12 +358,31 @@ fn tick_beside(services: &mut ControllerServices, units: u32, outbox: &mut Outbo
 
 /// A frame for which the controller sent these frames: only if it sent none, what is beside receives it.
 #[inline(always)]
-fn hear_beside(services: &mut ControllerServices, bytes: &[u8], sent: &Outbox, outbox: &mut Outbox)
+#[tactic(auto, using(crate::proofs::Besides::answered_already, crate::proofs::Telling::told_by_controller))]
+fn hear_beside(
+    services: &mut ControllerServices,
+    plan: &Plan,
+    bytes: &[u8],
+    sent: &Outbox,
+    outbox: &mut Outbox,
+)
     requires empty { outbox.old.items ≡ [] }
     ensures services { services.new ≡ after_frame services.old bytes.now (boxed sent.now) }
-    ensures frames { boxed outbox.new ≡ beside_frame services.old bytes.now (boxed sent.now) }
+    ensures frames { boxed outbox.new
+        ≡ told_frame plan.now bytes.now (boxed sent.now) (beside_frame services.old bytes.now (boxed sent.now)) }
 {
     if sent.is_empty() {
         services.hear(bytes, outbox);
+        tell(plan, bytes, outbox);
+    }
+}
+
+/// A frame to which the controller sent nothing, and its services these frames: only if they sent none, the DCP station answers.
+#[tactic(auto, using(crate::proofs::Telling::told_by_services, crate::proofs::Telling::told_after_none))]
+fn tell(plan: &Plan, bytes: &[u8], outbox: &mut Outbox)
+    ensures { boxed outbox.new ≡ told_frame plan.now bytes.now [] (boxed outbox.old) }
+{
+    if outbox.is_empty() {
+        controller_dcp::answer(plan, bytes, outbox);
     }
 }

@@ -26,8 +26,8 @@ pub extern "C" fn pn_plan_make(
     ensures refused { result ≢ 0 → result ≢ 2 → IsFault text.now result }
     ensures nothing { result ≢ 0 → result ≢ 2 → IsBlank plan.new }
     ensures kept { result ≡ 2 → plan.new ≡ plan.old }
-    ensures fits { size ≡ 4300 → result ≢ 2 }
-    ensures other { size ≢ 4300 → result ≡ 2 }
+    ensures fits { size ≡ 4336 → result ≢ 2 }
+    ensures other { size ≢ 4336 → result ≡ 2 }
 {
     read(alloc, text, size, plan)
 }

@@ -49,3 +49,4 @@ few_octets key.ContinueOnRefusedRecord = omega arith
 few_octets key.ReleaseOnRefusedRecord = omega arith
 few_octets key.ParametersAfterPlug = omega arith
 few_octets key.PersistentStart = omega arith
+few_octets key.Identity = omega arith

@@ -1,8 +1,9 @@
 -- What is returned to a host that asks for the plan of a catalogue.
-use Rattle.std.specs.Prelude.{◌≡◌, ◌+◌, ◌++◌, ℕ, List, [], ◌∷◌, length, map, drop, min, nat_le, replicate, Ok, if◌then◌else◌}
+use Rattle.std.specs.Prelude.{◌≡◌, ◌+◌, ◌++◌, ℕ, List, [], ◌∷◌, length, map, drop, min, nat_le, replicate, Option, Some, None, Ok, if◌then◌else◌}
 use Rattle.pn_values.specs.declared.real.ParameterRecord.{ParameterRecord}
 use Rattle.pn_values.specs.declared.real.RealModule.{RealModule}
 use Rattle.pn_values.specs.declared.real.RealSubmodule.{RealSubmodule}
+use Rattle.plans.specs.Identity.{OwnIdentity}
 use Rattle.plans.specs.declared.parts.Parts.{Parts}
 use Rattle.plans.specs.declared.parts.PlanRecord.{PlanRecord}
 use Rattle.catalogue.specs.Catalogues.{Catalogue, Found}
@@ -12,6 +13,7 @@ use Rattle.configurator.specs.Planned.{IsRefused, Handled}
 use Rattle.c_layout.specs.declared.plugged.Module.{Module}
 use Rattle.c_layout.specs.declared.plugged.Parameter.{Parameter}
 use Rattle.c_layout.specs.declared.plugged.Submodule.{Submodule}
+use Rattle.controller_abi.specs.declared.plan.WrittenIdentity.{WrittenIdentity}
 use Rattle.controller_abi.specs.declared.plan.WrittenPlan.{WrittenPlan}
 use Rattle.controller_abi.specs.declared.plan.WrittenRecord.{WrittenRecord}
 use Rattle.controller_abi.specs.Plans.{parts_of}
@@ -86,6 +88,20 @@ written_record entry = record {
 abbrev pub no_record : WrittenRecord
 no_record = record { slot = 0; subslot = 0; index = 0; length = 0; octets = replicate 64 0 }
 
+-- What a controller without a DCP station says of itself.
+abbrev pub no_identity : WrittenIdentity
+no_identity = record { vendor_id = 0; device_id = 0; station_type_length = 0; station_type = replicate 28 0 }
+
+-- What a controller says of itself to tools, as C sees it.
+abbrev pub written_identity : Option OwnIdentity → WrittenIdentity
+written_identity (Some own) = record {
+  vendor_id = own.vendor_id;
+  device_id = own.device_id;
+  station_type_length = length own.station_type;
+  station_type = over (replicate 28 0) own.station_type;
+}
+written_identity None = no_identity
+
 -- ---- a whole plan
 
 -- a plan that is all zero
@@ -117,6 +133,7 @@ pub record IsBlank (written : WrittenPlan) : Type 0 where
   pub waiting_patience : written.waiting_patience ≡ 0
   pub parameters_after_plug : written.parameters_after_plug ≡ 0
   pub persistent_start : written.persistent_start ≡ 0
+  pub identity : written.identity ≡ no_identity
 
 -- the octets of a type of station: none if it has more than 28
 abbrev pub type_of : List ℕ → List ℕ
@@ -142,6 +159,7 @@ pub record IsFilled (parts : Parts) (station_type : List ℕ) (written : Written
   pub waiting_patience : written.waiting_patience ≡ 0
   pub parameters_after_plug : written.parameters_after_plug ≡ (if parts.parameters_after_plug then 1 else 0)
   pub persistent_start : written.persistent_start ≡ (if parts.persistent_start then 1 else 0)
+  pub identity : written.identity ≡ written_identity parts.identity
 
 -- what was written is the plan of the text's catalogue, with its type of station
 pub record IsWritten (text : List ℕ) (written : WrittenPlan) : Type 0 where

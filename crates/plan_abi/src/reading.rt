@@ -11,18 +11,18 @@ use controller_abi::WrittenPlan;
 use std::alloc::Global;
 
 /// The size of a plan in octets.
-const PLAN: usize = 4300;
+const PLAN: usize = 4336;
 
 /// Reads a catalogue into a plan. Returns 0, or the number of the catalogue's first fault: then all of the plan is zero. `size` is the size of
-/// a plan in octets as the host has it: if it is not 4,300, the function returns 2 and the plan stays as it was.
+/// a plan in octets as the host has it: if it is not 4,336, the function returns 2 and the plan stays as it was.
 pub fn read(alloc: Global, text: &[u8], size: usize, plan: &mut WrittenPlan) -> u32
     ensures planned { result ≡ 0 → IsPlanOf text.now (parts_of plan.new) }
     ensures written { result ≡ 0 → IsWritten text.now plan.new }
     ensures refused { result ≢ 0 → result ≢ 2 → IsFault text.now result }
     ensures nothing { result ≢ 0 → result ≢ 2 → IsBlank plan.new }
     ensures kept { result ≡ 2 → plan.new ≡ plan.old }
-    ensures fits { size ≡ 4300 → result ≢ 2 }
-    ensures other { size ≢ 4300 → result ≡ 2 }
+    ensures fits { size ≡ 4336 → result ≢ 2 }
+    ensures other { size ≢ 4336 → result ≡ 2 }
 {
     if size != PLAN {
         return BAD_ABI;

@@ -1,14 +1,14 @@
 //! Writes a plan into a struct of the host's memory.
-ghost use Rattle.std.specs.Prelude.{◌≡◌, ◌≤◌, ◌<◌, length, map, min, replicate, take};
+ghost use Rattle.std.specs.Prelude.{◌≡◌, ◌≤◌, ◌<◌, Some, length, map, min, option_map, replicate, take};
 ghost use Rattle.plans.specs.Plan.{AreShort};
 ghost use Rattle.c_layout.specs.Modules.{module_of, parameter_of, submodule_of};
-ghost use Rattle.controller_abi.specs.Plans.{parts_of, record_of};
+ghost use Rattle.controller_abi.specs.Plans.{own_of, parts_of, record_of};
 ghost use Rattle.plan_abi.specs.Readings.{IsBlank, IsFilled, over, no_module, no_parameter, no_record, no_submodule, no_submodules, type_of};
-ghost use Rattle.plan_abi.specs.Readings.{written_module, written_parameter, written_record, written_submodule};
+ghost use Rattle.plan_abi.specs.Readings.{no_identity, written_identity, written_module, written_parameter, written_record, written_submodule};
 
 use c_layout::{Module, Parameter, Submodule};
-use controller_abi::{WrittenPlan, WrittenRecord};
-use plans::{Plan, PlanRecord};
+use controller_abi::{WrittenIdentity, WrittenPlan, WrittenRecord};
+use plans::{ControllerIdentity, Plan, PlanRecord};
 use pn_values::{ParameterRecord, RealModule, RealSubmodule};
 
 /// Sets all of a plan to zero.
@@ -42,6 +42,7 @@ pub fn clear(written: &mut WrittenPlan)
     written.waiting_patience = 0;
     written.parameters_after_plug = 0;
     written.persistent_start = 0;
+    written.identity = no_identity();
 }
 
 fn clear_modules(places: &mut [Module])
@@ -99,6 +100,44 @@ pub fn put(written: &mut WrittenPlan, plan: &Plan, station_type: &[u8])
     written.release_on_refused_record = u32::from(plan.release_on_refused_record());
     written.parameters_after_plug = u32::from(plan.has_parameters_after_plug());
     written.persistent_start = u32::from(plan.persistent_start());
+    written.identity = identity_in(plan.identity());
+}
+
+// What a controller says of itself to tools, if it says anything.
+fn identity_in(identity: Option<&ControllerIdentity>) -> WrittenIdentity
+    ensures laid { result ≡ written_identity (option_map (λ own. own.now) identity.entry) }
+    ensures whole { own_of result ≡ option_map (λ own. own.now) identity.entry }
+{
+    match identity {
+        Some(own) => told_in(own),
+        None => no_identity(),
+    }
+}
+
+fn told_in(own: &ControllerIdentity) -> WrittenIdentity
+    ensures laid { result ≡ written_identity (Some own.now) }
+    ensures whole { own_of result ≡ Some own.now }
+{
+    let station_type = own.station_type();
+    let mut octets = [0u8; 28];
+    put_octets(&mut octets, station_type);
+    WrittenIdentity {
+        vendor_id: own.vendor_id(),
+        device_id: own.device_id(),
+        station_type_length: station_type.len() as u32,
+        station_type: octets,
+    }
+}
+
+fn no_identity() -> WrittenIdentity
+    ensures { result ≡ no_identity }
+{
+    WrittenIdentity {
+        vendor_id: 0,
+        device_id: 0,
+        station_type_length: 0,
+        station_type: [0; 28],
+    }
 }
 
 // The octets of a type of station: none if it has more than 28.

@@ -1,4 +1,5 @@
 pub mod Packed
+pub mod Identity
 pub mod Parts
 pub mod Numbers
 pub mod Connect

@@ -4,12 +4,14 @@
 
 mod blocks;
 mod data;
+mod identity;
 mod laws;
 mod numbers;
 mod parts;
 mod places;
 mod plan;
 
+pub use identity::ControllerIdentity;
 pub use laws::packed_places_are_asked;
 pub use numbers::{
     ALARM_REFERENCE, INPUT_FRAME_ID, RTA_RETRIES, RTA_TIMEOUT_FACTOR, SESSION_KEY, TAG_HIGH,

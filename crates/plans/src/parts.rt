@@ -1,4 +1,5 @@
 //! The parts of a plan.
+use crate::identity::ControllerIdentity;
 use arrayvec::ArrayVec;
 use pn_values::{IpSuite, Mac, Real, StationName};
 
@@ -68,4 +69,6 @@ pub struct Parts {
     pub parameters_after_plug: bool,
     /// Whether the controller releases a relation that the device holds already: its Connect is refused with State conflict.
     pub persistent_start: bool,
+    /// What the controller says of itself to tools. With it the controller is a DCP station, else tools do not see it.
+    pub identity: Option<ControllerIdentity>,
 }

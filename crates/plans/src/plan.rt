@@ -1,5 +1,5 @@
 //! The plan of a station.
-ghost use Rattle.std.specs.Prelude.{◌≡◌, ◌≤◌, true, length};
+ghost use Rattle.std.specs.Prelude.{◌≡◌, ◌≤◌, true, length, option_map};
 ghost use Rattle.std.specs.List.{AllByRecursion};
 ghost use Rattle.arrayvec.specs.ArrayVec.{array_vec_len};
 ghost use Rattle.connect_blocks.specs.declared.iocr.IocrType.TheVariants.{Input, Output};
@@ -12,6 +12,7 @@ ghost use Rattle.plans.specs.Plan.{AreShort, IsPlan, do_frames_fit, long_of, pla
 
 use crate::blocks::{does_connect_fit, write_alarm, write_all_expected, write_ar, write_iocr};
 use crate::data::data_of;
+use crate::identity::ControllerIdentity;
 use crate::parts::{Controller, Parts, PlanRecord, Station, Times};
 use crate::places::{Places, data_length, frame_octets};
 use arrayvec::ArrayVec;
@@ -215,6 +216,13 @@ impl Plan {
         ensures { result ≡ self.now.persistent_start }
     {
         self.parts.persistent_start
+    }
+
+    /// What the controller says of itself to tools by DCP. `None` if it is no DCP station.
+    pub fn identity(&self) -> Option<&ControllerIdentity>
+        ensures { option_map (λ own. own.now) result ≡ self.now.identity }
+    {
+        self.parts.identity.as_ref()
     }
 
     /// The places of the submodules in the frames of a direction.

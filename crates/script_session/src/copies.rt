@@ -3,7 +3,7 @@ ghost use Rattle.std.specs.Prelude.{◌≡◌, ◌≤◌, length};
 
 use crate::bytes::copied;
 use arrayvec::ArrayVec;
-use plans::{Controller, Parts, Plan, PlanRecord, Station};
+use plans::{Controller, ControllerIdentity, Parts, Plan, PlanRecord, Station};
 use pn_values::{Real, RealModule, RealSubmodule};
 
 /// A copy of the plan.
@@ -32,10 +32,20 @@ pub(crate) fn plan_copy(plan: &Plan) -> Plan
         multiple_write: plan.has_multiple_write(),
         parameters_after_plug: plan.has_parameters_after_plug(),
         persistent_start: plan.persistent_start(),
+        identity: identity_copy(plan),
     };
     match Plan::new(parts) {
         Ok(copy) => copy,
         Err(_) => unreachable!(),
+    }
+}
+
+fn identity_copy(plan: &Plan) -> Option<ControllerIdentity>
+    ensures { result ≡ plan.now.identity }
+{
+    match plan.identity() {
+        Some(own) => Some(own.copy()),
+        None => None,
     }
 }
 

@@ -8,6 +8,7 @@
 //! continue                            the start-up goes on after a refused record
 //! release                             the controller releases the relation when it ends after a refused record
 //! lists                               the records are written in lists
+//! identity VENDOR DEVICE HEX          what the controller says of itself to tools
 //! ```
 //!
 //! Layouts and faults of the first 160 lines come from a reference model that was written from the rules of the catalogue alone
@@ -59,7 +60,10 @@ fn plan_lines(plan: &Plan) -> String {
         true => "persistent\n",
         false => "",
     };
-    let said = [goes_on, releases, lists, parameters, persistent].concat();
+    let identity = plan.identity().map_or(String::new(), |own| {
+        format!("identity {} {} {}\n", own.vendor_id(), own.device_id(), hex(own.station_type()))
+    });
+    let said = [goes_on, releases, lists, parameters, persistent, &identity].concat();
     connect + &records.collect::<String>() + &said
 }
 

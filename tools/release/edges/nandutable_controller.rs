@@ -5,7 +5,7 @@ const ROOM: usize = 40_960;
 const ALIGNMENT: usize = 16;
 
 const _: () = assert!(size_of::<Port>() <= ROOM && align_of::<Port>() <= ALIGNMENT);
-const _: () = assert!(size_of::<Op>() == 1680 && size_of::<WrittenPlan>() == 4300);
+const _: () = assert!(size_of::<Op>() == 1680 && size_of::<WrittenPlan>() == 4336);
 const _: () = assert!(size_of::<Search>() == 268 && size_of::<WrittenTool>() == 16 && size_of::<WrittenTarget>() == 14);
 
 /// There is no heap: nothing here takes memory. `uuid` names an allocator without using it.

@@ -3,7 +3,7 @@
 use core::alloc::{GlobalAlloc, Layout};
 use core::ffi::c_void;
 
-const _: () = assert!(size_of::<WrittenPlan>() == 4300);
+const _: () = assert!(size_of::<WrittenPlan>() == 4336);
 
 unsafe extern "C" {
     fn malloc(size: usize) -> *mut c_void;

@@ -48,6 +48,7 @@ pub enum Key {
     ReleaseOnRefusedRecord,
     ParametersAfterPlug,
     PersistentStart,
+    Identity,
 }
 
 impl Key {
@@ -100,6 +101,7 @@ impl Key {
             Key::ReleaseOnRefusedRecord => "ReleaseOnRefusedRecord",
             Key::ParametersAfterPlug => "ParametersAfterPlug",
             Key::PersistentStart => "PersistentStart",
+            Key::Identity => "Identity",
         }
     }
 }

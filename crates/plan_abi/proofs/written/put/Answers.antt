@@ -22,4 +22,5 @@ returns-clause-filled c = record {
   waiting_patience = search rules;
   parameters_after_plug = search rules;
   persistent_start = search rules;
+  identity = search rules;
 }
