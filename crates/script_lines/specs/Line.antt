@@ -27,7 +27,8 @@ use Rattle.script_lines.specs.declared.command.Words.TheVariants.{One, Two, Thre
 -- is ready for the plug in a slot and subslot, pull the submodule there, pull the module in a slot, plug this submodule into a
 -- slot with a module of this ident number, or show how far each submodule is that the Connect of the relation expects; show what
 -- is asked of the application, answer the question with this number by the octets of a record, or say that its record is
--- written, or refuse it with this ErrorCode1 and ErrorCode2.
+-- written, or refuse it with this ErrorCode1 and ErrorCode2; start a controller without the device, hand these bytes to it, show its
+-- input of the submodule in a slot and subslot, or show the last record of its plan that was refused.
 pub data Command : Type 0 where
   Frame : (bytes : List ℕ) → Command
   Restart : Command
@@ -65,6 +66,10 @@ pub data Command : Type 0 where
   AnswerRead : (number : ℕ) → (octets : List ℕ) → Command
   AnswerWrite : (number : ℕ) → Command
   Refuse : (number : ℕ) → (code1 : ℕ) → (code2 : ℕ) → Command
+  StartAlone : (ar : List ℕ) → (activity : List ℕ) → Command
+  Hear : (bytes : List ℕ) → Command
+  Value : (slot : ℕ) → (subslot : ℕ) → Command
+  LastRefused : Command
 
 -- The meaning of a line: too long or not ASCII, empty or a comment, a command, or none of these.
 pub data Line : Type 0 where
@@ -115,7 +120,8 @@ bare_of_both word =
     else (if is_text word (codes "stop") then Some Stop
     else (if is_text word (codes "stands") then Some Stands
     else (if is_text word (codes "told") then Some Told
-    else (if is_text word (codes "reply") then Some Reply else (if is_text word (codes "places") then Some Places else None)))))
+    else (if is_text word (codes "reply") then Some Reply
+    else (if is_text word (codes "places") then Some Places else (if is_text word (codes "refused") then Some LastRefused else None))))))
 
 -- The command of a line that is one word.
 abbrev pub bare : List ℕ → Option Command
@@ -145,7 +151,8 @@ with_one word first =
     else (if is_text word (codes "elapse") then option_map Elapse (units_of (number_of 1000000 first))
     else (if is_text word (codes "services") then services_of first
     else (if is_text word (codes "pull") then option_map PullModule (number_of 65535 first)
-    else (if is_text word (codes "answer") then option_map AnswerWrite (number_of 4294967295 first) else None)))))
+    else (if is_text word (codes "answer") then option_map AnswerWrite (number_of 4294967295 first)
+    else (if is_text word (codes "hear") then option_map Hear (bytes_of first) else None))))))
 
 -- The mask of decoded bytes.
 abbrev pub mask_of : Result (List ℕ) FromHexError → Option (List ℕ)
@@ -169,9 +176,9 @@ ordered word None = None
 ordered word (Some strike) = order_of word strike
 
 -- The command that starts a controller, if both UUIDs are valid.
-abbrev pub start_of : Option (List ℕ) → Option (List ℕ) → Option Command
-start_of None activity = None
-start_of (Some ar) activity = option_map (Start ar) activity
+abbrev pub start_of : (List ℕ → List ℕ → Command) → Option (List ℕ) → Option (List ℕ) → Option Command
+start_of command None activity = None
+start_of command (Some ar) activity = option_map (command ar) activity
 
 -- One of two words: the first means true, the second false.
 abbrev pub one_of : List ℕ → List ℕ → List ℕ → Option Bool
@@ -200,13 +207,15 @@ answer_of (Some number) octets = option_map (AnswerRead number) octets
 -- The command of a line with two words after it.
 abbrev pub with_two : List ℕ → List ℕ → List ℕ → Option Command
 with_two word first second =
-    if is_text word (codes "start") then start_of (parsed first) (parsed second)
+    if is_text word (codes "start") then start_of Start (parsed first) (parsed second)
+    else (if is_text word (codes "alone") then start_of StartAlone (parsed first) (parsed second)
+    else (if is_text word (codes "value") then at_place Value (number_of 65535 first) (number_of 65535 second)
     else (if is_text word (codes "option") then option_map Choose (choice_of first second)
     else (if is_text word (codes "provider") then at_place Provider (number_of 65535 first) (number_of 65535 second)
     else (if is_text word (codes "pull") then at_place Pull (number_of 65535 first) (number_of 65535 second)
     else (if is_text word (codes "ready") then at_place ReadyAt (number_of 65535 first) (number_of 65535 second)
     else (if is_text word (codes "answer") then answer_of (number_of 4294967295 first) (bytes_of second)
-    else ordered word (strike_of (number_of 4294967295 first) (mask_of (decode_of second))))))))
+    else ordered word (strike_of (number_of 4294967295 first) (mask_of (decode_of second))))))))))
 
 -- The command of a word with a slot, a subslot and bytes.
 abbrev pub targeted : List ℕ → ℕ → ℕ → Option (List ℕ) → Option Command

@@ -3,7 +3,7 @@ use Rattle.script_lines.specs.declared.command.Command.{Command as Code}
 use Rattle.script_lines.specs.declared.command.Command.TheVariants as code
 use Rattle.script_lines.specs.declared.command.Line.{Line as CodeLine}
 use Rattle.script_lines.specs.declared.command.Line.TheVariants as line
-use Rattle.script_lines.specs.Line.{Command, Frame, Restart, Tick, Elapse, Show, Due, Choose, Ready, Arm, Input, Alarm, Status, Diagnosis, Provider, Config, Start, Give, OutputStatus, Stop, Stands, Told, Read, Write, Reply, Places, Deliver, Serve, ReadyAt, Pull, PullModule, Plug, Expected, Asked, AnswerRead, AnswerWrite, Refuse, Line, Unfit, Skipped, Asks, Unknown}
+use Rattle.script_lines.specs.Line.{Command, Frame, Restart, Tick, Elapse, Show, Due, Choose, Ready, Arm, Input, Alarm, Status, Diagnosis, Provider, Config, Start, Give, OutputStatus, Stop, Stands, Told, Read, Write, Reply, Places, Deliver, Serve, ReadyAt, Pull, PullModule, Plug, Expected, Asked, AnswerRead, AnswerWrite, Refuse, StartAlone, Hear, Value, LastRefused, Line, Unfit, Skipped, Asks, Unknown}
 
 -- What the functions return is this command.
 abbrev pub command_read : Code → Command
@@ -43,6 +43,10 @@ command_read code.Asked = Asked
 command_read (code.AnswerRead number octets) = AnswerRead number octets.now
 command_read (code.AnswerWrite number) = AnswerWrite number
 command_read (code.Refuse number code1 code2) = Refuse number code1 code2
+command_read (code.StartAlone ar activity) = StartAlone ar activity
+command_read (code.Hear bytes) = Hear bytes.now
+command_read (code.Value slot subslot) = Value slot subslot
+command_read code.LastRefused = LastRefused
 
 -- What the functions return is this line.
 abbrev pub line_read : CodeLine → Line

@@ -7,7 +7,7 @@ ghost use Rattle.hex.specs.Hex.{decode_of};
 ghost use Rattle.uuid.specs.Text.{parsed};
 ghost use Rattle.script_lines.specs.Line.{behind, AreWords, bytes_of, catalogue_in, command_in, command_of, meaning_of, words_of, bare};
 ghost use Rattle.script_lines.specs.Line.{bare_of_both, with_one, with_two, with_five, with_four, with_more, with_three, ordered, start_of, units_of, mask_of, strike_of};
-ghost use Rattle.script_lines.specs.Line.{AnswerWrite, Choose, Elapse, OutputStatus, Provider, Pull, PullModule, Read, ReadyAt, Status, Tick};
+ghost use Rattle.script_lines.specs.Line.{AnswerWrite, Choose, Elapse, OutputStatus, Provider, Pull, PullModule, Read, ReadyAt, Start, StartAlone, Status, Tick, Value};
 ghost use Rattle.script_lines.specs.Line.{answer_of, at_place, choice_of, one_of, record_of, records_of, refuse_of, services_of, targeted};
 ghost use Rattle.script_lines.specs.Numbers.{number_of};
 ghost use Rattle.script_lines.specs.Read.{command_read, line_read};
@@ -104,6 +104,14 @@ pub enum Command<'a> {
     Deliver,
     /// Starts the services beside the device.
     Serve,
+    /// Starts a controller without the device, with this ARUUID and this activity UUID.
+    StartAlone(Uuid, Uuid),
+    /// Hands these bytes to the controller that is alone, as if from the network.
+    Hear(&'a [u8]),
+    /// Shows the controller's input of the submodule in this slot and subslot.
+    Value(u16, u16),
+    /// Shows the last record of the controller's plan that the device refused.
+    LastRefused,
 }
 
 /// An option of the device, and its value.
@@ -343,6 +351,8 @@ fn bare_of_both(word: &[u8]) -> Option<Command<'static>>
         Some(Command::Reply)
     } else if word == b"places".as_slice() {
         Some(Command::Places)
+    } else if word == b"refused".as_slice() {
+        Some(Command::LastRefused)
     } else {
         None
     }
@@ -367,6 +377,8 @@ fn with_one<'a>(
         Ok(pull_module(first))
     } else if word == b"answer".as_slice() {
         Ok(answer_write(first))
+    } else if word == b"hear".as_slice() {
+        Ok(decoded(first, buffer)?.map(Command::Hear))
     } else {
         Ok(None)
     }
@@ -419,6 +431,10 @@ fn with_two<'a>(
 {
     if word == b"start".as_slice() {
         Ok(start(first, second))
+    } else if word == b"alone".as_slice() {
+        Ok(start_alone(first, second))
+    } else if word == b"value".as_slice() {
+        Ok(value(first, second))
     } else if word == b"option".as_slice() {
         Ok(choose(first, second))
     } else if word == b"provider".as_slice() {
@@ -498,6 +514,15 @@ fn provider(first: &[u8], second: &[u8]) -> Option<Command<'static>>
     Some(Command::Provider(slot, subslot))
 }
 
+/// The command that shows an input of the controller.
+fn value(first: &[u8], second: &[u8]) -> Option<Command<'static>>
+    ensures { option_map command_read result ≡ at_place Value (number_of 65535 first.now) (number_of 65535 second.now) }
+{
+    let slot = place_number(first)?;
+    let subslot = place_number(second)?;
+    Some(Command::Value(slot, subslot))
+}
+
 /// The command that pulls the submodule in this slot and subslot.
 fn pull(first: &[u8], second: &[u8]) -> Option<Command<'static>>
     ensures { option_map command_read result ≡ at_place Pull (number_of 65535 first.now) (number_of 65535 second.now) }
@@ -562,11 +587,20 @@ fn refuse(number: &[u8], code1: &[u8], code2: &[u8]) -> Option<Command<'static>>
 
 /// The command that starts a controller with this ARUUID and this activity UUID.
 fn start(ar: &[u8], activity: &[u8]) -> Option<Command<'static>>
-    ensures { option_map command_read result ≡ start_of (parsed ar.now) (parsed activity.now) }
+    ensures { option_map command_read result ≡ start_of Start (parsed ar.now) (parsed activity.now) }
 {
     let ar = identifier(ar)?;
     let activity = identifier(activity)?;
     Some(Command::Start(ar, activity))
+}
+
+/// The command that starts a controller without the device, with this ARUUID and this activity UUID.
+fn start_alone(ar: &[u8], activity: &[u8]) -> Option<Command<'static>>
+    ensures { option_map command_read result ≡ start_of StartAlone (parsed ar.now) (parsed activity.now) }
+{
+    let ar = identifier(ar)?;
+    let activity = identifier(activity)?;
+    Some(Command::StartAlone(ar, activity))
 }
 
 /// The UUID that a word spells, in one of its four forms.

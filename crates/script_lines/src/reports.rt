@@ -1,13 +1,17 @@
-//! The lines of what the controller reports to its application: its alarms, and the answer to a request for a record. Each
-//! function appends a line, or a part of one, to a text.
-ghost use Rattle.std.specs.Prelude.{◌≡◌, ◌++◌, OnOk};
+//! The lines of what the controller reports to its application: its alarms, the answer to a request for a record, an input, and a record
+//! of the plan that was refused. Each function appends a line, or a part of one, to a text.
+ghost use Rattle.std.specs.Prelude.{◌≡◌, ◌++◌, OnOk, option_map};
 ghost use Rattle.hex.specs.Hex.{encode_lower};
-ghost use Rattle.script_lines.specs.Reports.{answer_words, octets_word, place_words, priority_word, reply_line, reply_words, result_words, service_word};
-ghost use Rattle.script_lines.specs.Reports.{spaced, structure_word, told_line, told_shown};
+ghost use Rattle.script_lines.specs.Reports.{answer_words, octets_word, place_words, priority_word, record_words, refused_line, refused_words, reply_line};
+ghost use Rattle.script_lines.specs.Reports.{reply_words, result_words, service_word, spaced, status_word, structure_word, told_line, told_shown};
+ghost use Rattle.script_lines.specs.Reports.{value_line, value_word};
 
 use crate::digits::pair;
 use crate::show::number;
-use controller_core::{Answer, Priority, RecordRequest, RecordService, Report};
+use controller_core::{
+    Answer, Controller, Priority, RecordRequest, RecordService, RefusedRecord, Report,
+};
+use plans::PlanRecord;
 use rpc_core::Status;
 use std::alloc::AllocError;
 
@@ -157,13 +161,80 @@ fn result_words(
 {
     if !status.is_done() {
         text.extend_from_slice(b"refused ")?;
-        return all_digits(
-            &[status.code, status.decode, status.code1, status.code2],
-            text,
-        );
+        return status_digits(status, text);
     }
     match service {
         RecordService::Read => self::octets(octets, text),
         RecordService::Write => text.extend_from_slice(b"done"),
     }
+}
+
+/// A status in hex. This is not a line of its own.
+fn status_digits(status: Status, text: &mut Vec<u8>) -> Result<(), AllocError>
+    ensures { OnOk result (text.new.items ≡ text.old.items ++ status_word status) }
+{
+    all_digits(
+        &[status.code, status.decode, status.code1, status.code2],
+        text,
+    )
+}
+
+/// An input in hex, `-` if it has no octets, or `none` if there is no such input.
+#[tactic(auto, unfolding(crate::specs::Reports::value_line))]
+pub fn value(input: Option<&[u8]>, text: &mut Vec<u8>) -> Result<(), AllocError>
+    ensures { OnOk result (text.new.items ≡ text.old.items ++ value_line (option_map (λ octets. octets.now) input.entry)) }
+{
+    text.extend_from_slice(b"value ")?;
+    value_word(input, text)?;
+    text.extend_from_slice(b"\n")
+}
+
+/// The word of an input. This is not a line of its own.
+fn value_word(input: Option<&[u8]>, text: &mut Vec<u8>) -> Result<(), AllocError>
+    ensures { OnOk result (text.new.items ≡ text.old.items ++ value_word (option_map (λ octets. octets.now) input.entry)) }
+{
+    match input {
+        Some(value) => octets(value, text),
+        None => text.extend_from_slice(b"none"),
+    }
+}
+
+/// The last record of its plan that the device refused to a controller: its number in the plan, slot, subslot, index and status; or `-`.
+#[tactic(auto, unfolding(crate::specs::Reports::refused_line))]
+pub fn refused(controller: &Controller, text: &mut Vec<u8>) -> Result<(), AllocError>
+    ensures { OnOk result (text.new.items ≡ text.old.items ++ refused_line controller.now) }
+{
+    text.extend_from_slice(b"refused ")?;
+    refused_words(controller, text)?;
+    text.extend_from_slice(b"\n")
+}
+
+/// That record, or `-`. This is not a line of its own.
+fn refused_words(controller: &Controller, text: &mut Vec<u8>) -> Result<(), AllocError>
+    ensures { OnOk result (text.new.items
+        ≡ text.old.items ++ refused_words controller.now.setup.plan controller.now.live.refused_record) }
+{
+    let Some(refusal) = controller.refused_record() else {
+        return text.extend_from_slice(b"-");
+    };
+    match controller.plan().records().get(refusal.number as usize) {
+        Some(entry) => record_words(refusal, entry, text),
+        None => text.extend_from_slice(b"-"),
+    }
+}
+
+/// The number of a record, what it names, and why it was refused. This is not a line of its own.
+fn record_words(
+    refusal: RefusedRecord,
+    entry: &PlanRecord,
+    text: &mut Vec<u8>,
+) -> Result<(), AllocError>
+    ensures { OnOk result (text.new.items ≡ text.old.items ++ record_words refusal entry.now) }
+{
+    number(refusal.number, text)?;
+    spaced(entry.slot, text)?;
+    spaced(entry.subslot, text)?;
+    spaced(entry.index, text)?;
+    text.extend_from_slice(b" ")?;
+    status_digits(refusal.status, text)
 }

@@ -14,9 +14,9 @@ use Rattle.script_lines.specs.Show.{controller_shown}
 use Rattle.script_lines.specs.Text.{moved_line, note_line, printed}
 use Rattle.script_session.specs.declared.power.Power.{Power}
 use Rattle.script_session.specs.declared.power.Power.TheVariants.{On}
-use Rattle.script_session.specs.Ends.{Hears, IsRightFor, Network, Other, Running, Starts, arrived_at, device_run, frames_for_device, may_request, printed_for, ticked_by, with_ends, with_plan, with_sent}
+use Rattle.script_session.specs.Ends.{Hears, HearsFrame, IsRightFor, Network, Other, Running, Starts, arrived_at, device_run, frames_for_device, let_out, may_request, printed_for, ticked_by, with_ends, with_plan, with_sent}
 use Rattle.script_session.specs.Power.{Held, IsRunning}
-use Rattle.script_session.specs.Said.{config_outcome, deliver_answer, deliver_outcome, handed_over, heard_outcome, record_outcome, start_outcome, tick_answer}
+use Rattle.script_session.specs.Said.{Outcome, at_other, config_outcome, deliver_answer, deliver_outcome, frame_outcome, handed_over, heard_outcome, is_valid, other_shown, passed_outcome, record_outcome, said, said_here, said_if, start_outcome, tick_answer, ticked_outcome}
 use Rattle.script_session.specs.Session.{Comes, IsDone, IsHandedOver, IsObeyed, IsRunOf, IsWithoutPlan, Obeys}
 use Rattle.script_session.proofs.Obeying.{always_obeys}
 
@@ -39,26 +39,31 @@ config_planned plans network catalogue plan power far other before now done resu
 
 -- ---- a controller
 
+-- The other end is as it was made, what its controller sent is printed if it is alone, and its state.
+at_other_answered : (network : Network) (made other after : Other) (power : Power) (before now : List ℕ) → other ≡ made → after ≡ let_out other → IsRunning network.station power → now ≡ before ++ other_shown other
+    → Comes (at_other network made) (record { power = power; other = after }) before now true
+at_other_answered network made other after power before now same out runs text =
+    (refl, record { runs = runs; waits = out ∙ ap let_out same; text = text ∙ ap (λ o. before ++ other_shown o) same })
+
 -- The start of a controller depends only on the other end.
-start_is : (network : Network) (far other : Other) (ar activity : List ℕ) (started : Bool) → far ≡ network.other → Starts far.plan far ar activity other started → Starts network.other.plan network.other ar activity other started
-start_is network far other ar activity started same = subst (λ o. Starts o.plan o ar activity other started) same
+start_is : (network : Network) (is_alone : Bool) (far other : Other) (ar activity : List ℕ) (started : Bool) → far ≡ network.other → Starts far.plan is_alone far ar activity other started → Starts network.other.plan is_alone network.other ar activity other started
+start_is network is_alone far other ar activity started same = subst (λ o. Starts o.plan is_alone o ar activity other started) same
 
-start_none : (plan : Option Parts) (network : Network) (far other : Other) (ar activity : List ℕ) (held : Held) (before now : List ℕ) → Starts plan far ar activity other false → Comes (start_outcome network ar activity plan) held before now false
-start_none None network far other ar activity held before now starts = refl
-start_none (Some plan) network far other ar activity held before now starts = absurd (false≢true starts.0)
+start_none : (plan : Option Parts) (network : Network) (is_alone : Bool) (far other : Other) (ar activity : List ℕ) (held : Held) (before now : List ℕ) → Starts plan is_alone far ar activity other false → Comes (start_outcome network is_alone ar activity plan) held before now false
+start_none None network is_alone far other ar activity held before now starts = refl
+start_none (Some plan) network is_alone far other ar activity held before now starts = absurd (false≢true starts.0)
 
-start_some : (plan : Option Parts) (network : Network) (other : Other) (ar activity : List ℕ) (power : Power) (before now : List ℕ) → Starts plan network.other ar activity other true → IsRunning network.station power → now ≡ before ++ controller_shown other.controller
-    → Comes (start_outcome network ar activity plan) (record { power = power; other = other }) before now true
-start_some None network other ar activity power before now starts runs text = absurd (false≢true (sym starts))
-start_some (Some plan) network other ar activity power before now starts runs text =
-    (refl, record { runs = runs; waits = starts.1; text = text ∙ ap (λ o. before ++ controller_shown o.controller) starts.1 })
+start_some : (plan : Option Parts) (network : Network) (is_alone : Bool) (other after : Other) (ar activity : List ℕ) (power : Power) (before now : List ℕ) → Starts plan is_alone network.other ar activity other true → after ≡ let_out other → IsRunning network.station power → now ≡ before ++ other_shown other
+    → Comes (start_outcome network is_alone ar activity plan) (record { power = power; other = after }) before now true
+start_some None network is_alone other after ar activity power before now starts out runs text = absurd (false≢true (sym starts))
+start_some (Some plan) network is_alone other after ar activity power before now starts out runs text = at_other_answered network _ other after power before now starts.1 out runs text
 
-pub start_refused : (network : Network) (far other : Other) (ar activity : List ℕ) (held : Held) (before now : List ℕ) → far ≡ network.other → Starts far.plan far ar activity other false → Comes (start_outcome network ar activity network.other.plan) held before now false
-start_refused network far other ar activity held before now same starts = start_none network.other.plan network network.other other ar activity held before now (start_is network far other ar activity false same starts)
+pub start_refused : (network : Network) (is_alone : Bool) (far other : Other) (ar activity : List ℕ) (held : Held) (before now : List ℕ) → far ≡ network.other → Starts far.plan is_alone far ar activity other false → Comes (start_outcome network is_alone ar activity network.other.plan) held before now false
+start_refused network is_alone far other ar activity held before now same starts = start_none network.other.plan network is_alone network.other other ar activity held before now (start_is network is_alone far other ar activity false same starts)
 
-pub start_answered : (network : Network) (far other : Other) (ar activity : List ℕ) (power : Power) (before now : List ℕ) → far ≡ network.other → Starts far.plan far ar activity other true → IsRunning network.station power → now ≡ before ++ controller_shown other.controller
-    → Comes (start_outcome network ar activity network.other.plan) (record { power = power; other = other }) before now true
-start_answered network far other ar activity power before now same starts = start_some network.other.plan network other ar activity power before now (start_is network far other ar activity true same starts)
+pub start_answered : (network : Network) (is_alone : Bool) (far other after : Other) (ar activity : List ℕ) (power : Power) (before now : List ℕ) → far ≡ network.other → Starts far.plan is_alone far ar activity other true → after ≡ let_out other → IsRunning network.station power → now ≡ before ++ other_shown other
+    → Comes (start_outcome network is_alone ar activity network.other.plan) (record { power = power; other = after }) before now true
+start_answered network is_alone far other after ar activity power before now same starts = start_some network.other.plan network is_alone other after ar activity power before now (start_is network is_alone far other ar activity true same starts)
 
 -- ---- an event of the controller's application
 
@@ -69,18 +74,69 @@ hear_none : (controller : Option Controlling) (network : Network) (far other : O
 hear_none None network far other event held before now hears = refl
 hear_none (Some controller) network far other event held before now hears = absurd (false≢true hears.0)
 
-hear_some : (controller : Option Controlling) (network : Network) (other : Other) (event : ControllerEvent) (power : Power) (before now : List ℕ) → Hears controller network.other event other true → IsRunning network.station power → now ≡ before ++ controller_shown other.controller
-    → Comes (heard_outcome network event controller) (record { power = power; other = other }) before now true
-hear_some None network other event power before now hears runs text = absurd (false≢true (sym hears))
-hear_some (Some controller) network other event power before now hears runs text =
-    (refl, record { runs = runs; waits = hears.1; text = text ∙ ap (λ o. before ++ controller_shown o.controller) hears.1 })
+hear_some : (controller : Option Controlling) (network : Network) (other after : Other) (event : ControllerEvent) (power : Power) (before now : List ℕ) → Hears controller network.other event other true → after ≡ let_out other → IsRunning network.station power → now ≡ before ++ other_shown other
+    → Comes (heard_outcome network event controller) (record { power = power; other = after }) before now true
+hear_some None network other after event power before now hears out runs text = absurd (false≢true (sym hears))
+hear_some (Some controller) network other after event power before now hears out runs text = at_other_answered network _ other after power before now hears.1 out runs text
 
 pub hear_refused : (network : Network) (far other : Other) (event : ControllerEvent) (held : Held) (before now : List ℕ) → far ≡ network.other → Hears far.controller far event other false → Comes (heard_outcome network event network.other.controller) held before now false
 hear_refused network far other event held before now same hears = hear_none network.other.controller network network.other other event held before now (hear_is network far other event false same hears)
 
-pub hear_answered : (network : Network) (far other : Other) (event : ControllerEvent) (power : Power) (before now : List ℕ) → far ≡ network.other → Hears far.controller far event other true → IsRunning network.station power → now ≡ before ++ controller_shown other.controller
-    → Comes (heard_outcome network event network.other.controller) (record { power = power; other = other }) before now true
-hear_answered network far other event power before now same hears = hear_some network.other.controller network other event power before now (hear_is network far other event true same hears)
+pub hear_answered : (network : Network) (far other after : Other) (event : ControllerEvent) (power : Power) (before now : List ℕ) → far ≡ network.other → Hears far.controller far event other true → after ≡ let_out other → IsRunning network.station power → now ≡ before ++ other_shown other
+    → Comes (heard_outcome network event network.other.controller) (record { power = power; other = after }) before now true
+hear_answered network far other after event power before now same hears = hear_some network.other.controller network other after event power before now (hear_is network far other event true same hears)
+
+-- ---- a frame at a controller that is alone
+
+frame_is : (network : Network) (far other : Other) (octets : List ℕ) (heard : Bool) → far ≡ network.other → HearsFrame far.controller far octets other heard → HearsFrame network.other.controller network.other octets other heard
+frame_is network far other octets heard same = subst (λ o. HearsFrame o.controller o octets other heard) same
+
+frame_none : (controller : Option Controlling) (network : Network) (far other : Other) (octets : List ℕ) (held : Held) (before now : List ℕ) → HearsFrame controller far octets other false → Comes (frame_outcome network (record { items = octets }) controller) held before now false
+frame_none None network far other octets held before now hears = refl
+frame_none (Some controller) network far other octets held before now hears = absurd (false≢true hears.0)
+
+frame_some : (controller : Option Controlling) (network : Network) (other after : Other) (octets : List ℕ) (power : Power) (before now : List ℕ) → HearsFrame controller network.other octets other true → after ≡ let_out other → IsRunning network.station power → now ≡ before ++ other_shown other
+    → Comes (frame_outcome network (record { items = octets }) controller) (record { power = power; other = after }) before now true
+frame_some None network other after octets power before now hears out runs text = absurd (false≢true (sym hears))
+frame_some (Some controller) network other after octets power before now hears out runs text = at_other_answered network _ other after power before now hears.1 out runs text
+
+pub frame_refused : (network : Network) (far other : Other) (octets : List ℕ) (held : Held) (before now : List ℕ) → far ≡ network.other → HearsFrame far.controller far octets other false → Comes (frame_outcome network (record { items = octets }) network.other.controller) held before now false
+frame_refused network far other octets held before now same hears = frame_none network.other.controller network network.other other octets held before now (frame_is network far other octets false same hears)
+
+pub frame_answered : (network : Network) (far other after : Other) (octets : List ℕ) (power : Power) (before now : List ℕ) → far ≡ network.other → HearsFrame far.controller far octets other true → after ≡ let_out other → IsRunning network.station power → now ≡ before ++ other_shown other
+    → Comes (frame_outcome network (record { items = octets }) network.other.controller) (record { power = power; other = after }) before now true
+frame_answered network far other after octets power before now same hears = frame_some network.other.controller network other after octets power before now (frame_is network far other octets true same hears)
+
+-- ---- units of time at a controller that is alone
+
+passed_none : (controller : Option Controlling) (network : Network) (units : ℕ) (held : Held) (before now : List ℕ) → is_some controller ≡ false → Comes (passed_outcome network units controller) held before now false
+passed_none None network units held before now none = refl
+passed_none (Some controller) network units held before now none = absurd (false≢true (sym none))
+
+passed_some : (controller : Option Controlling) (network : Network) (units : ℕ) (other after : Other) (power : Power) (before now : List ℕ) → is_some controller ≡ true → other ≡ ticked_by controller network.other units → after ≡ let_out other → IsRunning network.station power → now ≡ before ++ other_shown other
+    → Comes (passed_outcome network units controller) (record { power = power; other = after }) before now true
+passed_some None network units other after power before now some ticked out runs text = absurd (false≢true some)
+passed_some (Some controller) network units other after power before now some ticked out runs text = at_other_answered network _ other after power before now ticked out runs text
+
+pub passed_refused : (network : Network) (units : ℕ) (far : Other) (held : Held) (before now : List ℕ) → far ≡ network.other → is_some far.controller ≡ false → Comes (passed_outcome network units network.other.controller) held before now false
+passed_refused network units far held before now same none = passed_none network.other.controller network units held before now (subst (λ o. is_some o.controller ≡ false) same none)
+
+pub passed_answered : (network : Network) (units : ℕ) (far other after : Other) (power : Power) (before now : List ℕ) → far ≡ network.other → is_some far.controller ≡ true → other ≡ ticked_by far.controller far units → after ≡ let_out other → IsRunning network.station power → now ≡ before ++ other_shown other
+    → Comes (passed_outcome network units network.other.controller) (record { power = power; other = after }) before now true
+passed_answered network units far other after power before now same some ticked =
+    passed_some network.other.controller network units other after power before now (subst (λ o. is_some o.controller ≡ true) same some)
+    (subst (λ o. other ≡ ticked_by o.controller o units) same ticked)
+
+-- The lines `tick` and `elapse` do what the controller does, if it is alone, and else what both ends do.
+pub ticked_alone : (network : Network) (units : ℕ) (far : Other) (held : Held) (before now : List ℕ) (is : Bool) → far ≡ network.other → far.is_alone ≡ true → Comes (passed_outcome network units network.other.controller) held before now is
+    → Comes (ticked_outcome network network.other.is_alone units) held before now is
+ticked_alone network units far held before now is same alone comes =
+    subst (λ (b : Bool). Comes (ticked_outcome network b units) held before now is) (sym (sym (ap (λ (o : Other). o.is_alone) same) ∙ alone)) comes
+
+pub ticked_both : (network : Network) (units : ℕ) (far : Other) (held : Held) (before now : List ℕ) → far ≡ network.other → far.is_alone ≡ false → IsObeyed (tick_answer network units) held before now
+    → Comes (ticked_outcome network network.other.is_alone units) held before now true
+ticked_both network units far held before now same both obeyed =
+    subst (λ (b : Bool). Comes (ticked_outcome network b units) held before now true) (sym (sym (ap (λ (o : Other). o.is_alone) same) ∙ both)) (refl, obeyed)
 
 -- A request that is not refused is an event of the controller's application like any other.
 pub record_passes : (network : Network) (event : ControllerEvent) (fits : Bool) (controller : Option Controlling) → fits ≡ true → option_map may_request controller ≡ Some true → record_outcome network event fits controller ≡ heard_outcome network event controller

@@ -1,17 +1,19 @@
 -- The effect of a line at both ends.
 use Rattle.std.proofs.Common.{◌≡◌, inl, ℕ, List, [], ◌∷◌, ◌++◌, length, arith, Bool, true, false, Option, None, Result, Ok, Err, OnOk, IfOk, IsErr, MatchResult, is_ok, if◌then◌else◌, refl, sym, ap, subst, append-nil, ◌∙◌}
+use Rattle.std.specs.Prelude.{◌||◌}
+use Rattle.std.proofs.lemmas.Bool.{false≢true, or_parts}
 use Rattle.flash_model.specs.declared.flash.Order.{Order}
 use Rattle.plans.specs.declared.parts.Parts.{Parts}
 use Rattle.configurator.specs.declared.fault.PlanFault.{PlanFault}
 use Rattle.configurator.specs.declared.fault.PlanFault.TheVariants.{OutOfMemory}
-use Rattle.script_lines.specs.Line.{Command, Frame, Restart, Tick, Elapse, Show, Due, Choose, Ready, Arm, Input, Alarm, Status, Diagnosis, Provider, Config, Start, Give, OutputStatus, Stop, Stands, Told, Read, Write, Reply, Places, Deliver, Serve, ReadyAt, Pull, PullModule, Plug, Expected, Asked, AnswerRead, AnswerWrite, Refuse, Line, Skipped, Asks, meaning_of}
+use Rattle.script_lines.specs.Line.{Command, Frame, Restart, Tick, Elapse, Show, Due, Choose, Ready, Arm, Input, Alarm, Status, Diagnosis, Provider, Config, Start, Give, OutputStatus, Stop, Stands, Told, Read, Write, Reply, Places, Deliver, Serve, ReadyAt, Pull, PullModule, Plug, Expected, Asked, AnswerRead, AnswerWrite, Refuse, StartAlone, Hear, Value, LastRefused, Line, Skipped, Asks, meaning_of}
 use Rattle.script_lines.specs.declared.command.Choice.{Choice}
 use Rattle.script_session.specs.declared.power.Power.{Power}
 use Rattle.script_session.specs.declared.power.Power.TheVariants.{On, Off, Away}
 use Rattle.script_session.specs.Ends.{Network, Station, Running, Other, chosen, serving}
 use Rattle.script_session.specs.Power.{Held, IsRunning, is_off, refusal_of}
-use Rattle.script_session.specs.Said.{Answer, Answers, Outcome, choose_answer, outcome_of, serve_answer, served, unchanged}
-use Rattle.script_session.specs.Off.{Orders, TakesOrder}
+use Rattle.script_session.specs.Said.{Answer, Answers, Outcome, choose_answer, is_valid, outcome_of, said, said_here, said_if, serve_answer, served, unchanged}
+use Rattle.script_session.specs.Off.{Orders, TakesOrder, TellsLoss}
 use Rattle.script_session.specs.Session.{Are, Comes, IsDone, IsObeyed, Obeys}
 
 -- A device that runs was not refused its start.
@@ -89,6 +91,42 @@ pub if_there_tells : {E : Type 0} (A : Type 0) (is : Result Bool E) (result : Re
 if_there_tells A is (Ok there) reported given = subst (λ i. OnOk i A) given reported
 if_there_tells A is (Err fault) reported given = tt
 
+-- ---- commands that are valid only at some times
+
+-- What is known of a command at a session is known of it at the network, which has power.
+here_is : (network : Network) (command : Command) (held : Held) (is : Bool) → (is_off held.power || is_valid held.other.is_alone command) ≡ is → Are network held → is_valid network.other.is_alone command ≡ is
+here_is network command held is valid are =
+    subst (λ (o : Other). is_valid o.is_alone command ≡ is) are.1
+    (subst (λ (b : Bool). (b || is_valid held.other.is_alone command) ≡ is) (unlost network.station held.power are.0) valid)
+
+-- A command that is valid has the effect that it has.
+pub valid_obeys : (plans : List ℕ → Option Parts) (network : Network) (command : Command) (old held : Held) (before now : List ℕ) (result : Result Bool PlanFault) → (is_off old.power || is_valid old.other.is_alone command) ≡ true → Are network old
+    → Obeys (said plans network command) held before now result → Obeys (said_here plans network command) held before now result
+valid_obeys plans network command old held before now result valid are obeys =
+    subst (λ (b : Bool). Obeys (said_if b plans network command) held before now result) (sym (here_is network command old true valid are)) obeys
+
+-- One that is not is refused.
+pub invalid_obeys : (plans : List ℕ → Option Parts) (network : Network) (command : Command) (held : Held) (before now : List ℕ) → (is_off held.power || is_valid held.other.is_alone command) ≡ false → Are network held
+    → Obeys (said_here plans network command) held before now (Ok false)
+invalid_obeys plans network command held before now invalid are =
+    subst (λ (b : Bool). Obeys (said_if b plans network command) held before now (Ok false)) (sym (here_is network command held false invalid are)) refl
+
+-- Without power each command is carried out that gets so far.
+pub off_is_valid : (off valid : Bool) → (off || valid) ≡ false → off ≡ true → ⊥
+off_is_valid off valid invalid is = false≢true (sym (or_parts off valid invalid).0 ∙ is)
+
+-- An order to the flash is valid unless the controller is alone.
+pub order_is_valid : (off is_alone : Bool) (command : Command) (order : Order) → (off || is_valid is_alone command) ≡ false → is_alone ≡ false → command ≡ Arm order → ⊥
+order_is_valid off is_alone command order invalid both is =
+    let here : is_valid false (Arm order) ≡ false =
+    subst (λ (b : Bool). is_valid b (Arm order) ≡ false) both
+    (subst (λ (c : Command). is_valid is_alone c ≡ false) is (or_parts off (is_valid is_alone command) invalid).1) in
+    false≢true (sym here)
+
+-- A line that leaves the power as it is loses none.
+pub none_lost : {T E : Type 0} (is_left : Type 0) (power : Power) (before now : List ℕ) (result : Result T E) → TellsLoss is_left power power before now result
+none_lost is_left power before now result on off = absurd (false≢true (sym on ∙ off))
+
 -- ---- orders to the flash
 
 -- The effect of an order is the effect of a line with that order.
@@ -130,3 +168,7 @@ order_taken Asked old new before now result orders = tt
 order_taken (AnswerRead number octets) old new before now result orders = tt
 order_taken (AnswerWrite number) old new before now result orders = tt
 order_taken (Refuse number code1 code2) old new before now result orders = tt
+order_taken (StartAlone ar activity) old new before now result orders = tt
+order_taken (Hear bytes) old new before now result orders = tt
+order_taken (Value slot subslot) old new before now result orders = tt
+order_taken LastRefused old new before now result orders = tt

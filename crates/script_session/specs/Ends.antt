@@ -1,7 +1,9 @@
 -- The two ends of the wire between two lines, and the frames that wait between them.
 use Rattle.std.specs.Prelude.{◌≡◌, ◌≢◌, ◌⊎◌, ℕ, Bool, true, false, Result, Ok, Err, List, [], ◌∷◌, ◌++◌, map, replicate, flat_map, if◌then◌else◌, Option, Some, None}
+use Rattle.std.specs.List.{cons_option}
 use Rattle.arrayvec.specs.ArrayVec.{ArrayVec}
 use Rattle.plans.specs.declared.parts.Parts.{Parts}
+use Rattle.controller_dcp.specs.Station.{answer_to}
 use Rattle.configurator.specs.declared.fault.PlanFault.{PlanFault}
 use Rattle.configurator.specs.declared.fault.PlanFault.TheVariants.{OutOfMemory}
 use Rattle.configurator.specs.Planned.{IsPlanOf, IsRefused}
@@ -111,13 +113,14 @@ station_step station event =
     let ready = ready_of station in turned ready.services ready.device event (step_of [] ready.device ready.live event)
 
 -- What is kept besides the station: the options of its next start, whether services begin with that, and the other end: the
--- plan of the next controller, the controller once there is one, the lines of the alarms that it accepted since its start, and
--- the frames that wait at either end, in order.
+-- plan of the next controller, the controller once there is one, whether it is alone, the lines of the alarms that it accepted since its
+-- start, and the frames that wait at either end, in order.
 pub record Other : Type 0 where
   pub options : DemoOptions
   pub serves : Bool
   pub plan : Option Parts
   pub controller : Option Controlling
+  pub is_alone : Bool
   pub told : List ℕ
   pub to_device : List (List ℕ)
   pub to_controller : List (List ℕ)
@@ -149,7 +152,7 @@ KnowsTheRefusal = (plans : List ℕ → Option Parts) (catalogue : List ℕ) (fa
 
 -- The other end before a catalogue was read. All options have their defaults.
 abbrev pub nobody : Other
-nobody = record { options = default_choices; serves = false; plan = None; controller = None; told = []; to_device = []; to_controller = [] }
+nobody = record { options = default_choices; serves = false; plan = None; controller = None; is_alone = false; told = []; to_device = []; to_controller = [] }
 
 -- ---- events, one after another, and the frames that they send
 
@@ -246,11 +249,31 @@ abbrev pub ticked_by : Option Controlling → Other → ℕ → Other
 ticked_by None other units = other
 ticked_by (Some controller) other units = with_run other (controller_run controller (replicate units heard.Tick))
 
--- A new controller of a plan in place of the last one; its first request waits after the frames that wait already.
-abbrev pub with_fresh : Other → Parts → List ℕ → List ℕ → Other
-with_fresh other plan ar activity =
+-- Frames that wait: beside a controller that is alone none waits.
+abbrev pub waiting_at : Bool → List (List ℕ) → List (List ℕ)
+waiting_at true frames = []
+waiting_at false frames = frames
+
+-- The other end as a controller finds it that starts, alone or at the other end of the wire.
+abbrev pub waiting_for : Bool → Other → Other
+waiting_for is_alone other = record other { to_device = waiting_at is_alone other.to_device; to_controller = waiting_at is_alone other.to_controller }
+
+-- A new controller of a plan in place of the last one, alone or at the other end of the wire. Its first request waits after the frames that
+-- wait already; these are dropped if it is alone.
+abbrev pub with_fresh : Bool → Other → Parts → List ℕ → List ℕ → Other
+with_fresh is_alone other plan ar activity =
     let controller = fresh plan ar activity in
-    record other { controller = Some controller; told = []; to_device = other.to_device ++ opening_of controller ∷ [] }
+    let before = waiting_for is_alone other in
+    record before { controller = Some controller; is_alone = is_alone; told = []; to_device = before.to_device ++ opening_of controller ∷ [] }
+
+-- The other end once what a controller that is alone sent was printed.
+abbrev pub let_out : Other → Other
+let_out other = record other { to_device = waiting_at other.is_alone other.to_device }
+
+-- The lines of what a controller sent, if it is alone; else its frames wait.
+abbrev pub out_from : Bool → List (List ℕ) → List ℕ
+out_from true frames = out_lines frames
+out_from false frames = []
 
 -- The other end with a plan for the next controller.
 abbrev pub with_plan : Other → Parts → Other
@@ -281,6 +304,17 @@ cleared other = record other { to_device = []; to_controller = [] }
 abbrev pub with_told : Other → List Report → Other
 with_told other alarms = record other { told = other.told ++ flat_map told_line alarms }
 
+-- A frame at a controller that is a DCP station: its step, and its answer to a tool, which depends on its plan and the frame alone.
+abbrev pub answering_step : Controlling → ArrayVec ℕ → ControllerRun
+answering_step controller octets =
+    let step = controller_step controller (heard.Frame octets) in
+    record { controller = step.controller; frames = step.frames ++ cons_option (answer_to step.controller.setup.plan octets.items) [] }
+
+-- The other end after a frame at its controller.
+abbrev pub heard_by : Controlling → Other → ArrayVec ℕ → Other
+heard_by controller other octets =
+    let run = answering_step controller octets in with_run (with_told other (news_of controller run.controller)) run
+
 -- The frames that waited for the controller were handed over, if there is one.
 abbrev pub arrived_at : Option Controlling → Other → Other
 arrived_at None other = other
@@ -308,12 +342,17 @@ abbrev pub Plans : List ℕ → Other → Other → Result (Unit {0}) PlanFault 
 Plans catalogue before after (Ok done) = (plan : Parts) × IsPlanOf catalogue plan × (after ≡ with_plan before plan)
 Plans catalogue before after (Err fault) = IsRefused catalogue fault
 
--- A controller was started, if there is a plan.
-abbrev pub Starts : Option Parts → Other → List ℕ → List ℕ → Other → Bool → Type 0
-Starts None before ar activity after started = started ≡ false
-Starts (Some plan) before ar activity after started = (started ≡ true) × (after ≡ with_fresh before plan ar activity)
+-- A controller was started, alone or at the other end of the wire, if there is a plan.
+abbrev pub Starts : Option Parts → Bool → Other → List ℕ → List ℕ → Other → Bool → Type 0
+Starts None is_alone before ar activity after started = started ≡ false
+Starts (Some plan) is_alone before ar activity after started = (started ≡ true) × (after ≡ with_fresh is_alone before plan ar activity)
 
 -- The controller received the event, if there is a controller.
 abbrev pub Hears : Option Controlling → Other → ControllerEvent → Other → Bool → Type 0
 Hears None before event after heard = heard ≡ false
 Hears (Some controller) before event after heard = (heard ≡ true) × (after ≡ with_run before (controller_step controller event))
+
+-- The controller received these octets from the network, if there is a controller.
+abbrev pub HearsFrame : Option Controlling → Other → List ℕ → Other → Bool → Type 0
+HearsFrame None before octets after heard = heard ≡ false
+HearsFrame (Some controller) before octets after heard = (heard ≡ true) × (after ≡ heard_by controller before (record { items = octets }))

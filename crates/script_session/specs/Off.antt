@@ -4,7 +4,7 @@ use Rattle.std.specs.Prelude.{◌≡◌, ℕ, Bool, true, false, List, [], ◌++
 use Rattle.flash_model.specs.declared.flash.Order.{Order}
 use Rattle.configurator.specs.declared.fault.PlanFault.{PlanFault}
 use Rattle.configurator.specs.declared.fault.PlanFault.TheVariants.{OutOfMemory}
-use Rattle.script_lines.specs.Line.{Command, Frame, Restart, Tick, Elapse, Show, Due, Choose, Ready, Arm, Input, Alarm, Status, Diagnosis, Provider, Config, Start, Give, OutputStatus, Stop, Stands, Told, Read, Write, Reply, Places, Deliver, Serve, ReadyAt, Pull, PullModule, Plug, Expected, Asked, AnswerRead, AnswerWrite, Refuse, Line, Unfit, Skipped, Asks, Unknown}
+use Rattle.script_lines.specs.Line.{Command, Frame, Restart, Tick, Elapse, Show, Due, Choose, Ready, Arm, Input, Alarm, Status, Diagnosis, Provider, Config, Start, Give, OutputStatus, Stop, Stands, Told, Read, Write, Reply, Places, Deliver, Serve, ReadyAt, Pull, PullModule, Plug, Expected, Asked, AnswerRead, AnswerWrite, Refuse, StartAlone, Hear, Value, LastRefused, Line, Unfit, Skipped, Asks, Unknown}
 use Rattle.script_lines.specs.Text.{boot_line, lost_line, off_line}
 use Rattle.script_session.specs.Ends.{Other, cleared}
 use Rattle.script_session.specs.declared.power.Power.{Power}
@@ -83,6 +83,10 @@ hands Asked = false
 hands (AnswerRead number octets) = true
 hands (AnswerWrite number) = true
 hands (Refuse number code1 code2) = true
+hands (StartAlone ar activity) = false
+hands (Hear bytes) = false
+hands (Value slot subslot) = false
+hands LastRefused = false
 
 -- A line that hands something to the device.
 abbrev pub is_handed : Line → Bool

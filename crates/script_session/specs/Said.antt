@@ -1,5 +1,5 @@
 -- The effect of a line: a command to the demo device, whose flash never fails, or to the other end.
-use Rattle.std.specs.Prelude.{ℕ, Bool, true, false, ◌&&◌, nat_le, List, [], ◌++◌, codes, length, option_map, replicate, take, if◌then◌else◌, Option, Some, None}
+use Rattle.std.specs.Prelude.{ℕ, Bool, true, false, ◌&&◌, nat_le, not, List, [], ◌++◌, codes, length, option_map, replicate, take, if◌then◌else◌, Option, Some, None}
 use Rattle.arrayvec.specs.ArrayVec.{ArrayVec}
 use Rattle.pn_values.specs.Settings.{factory_settings}
 use Rattle.pn_values.specs.declared.settings.Settings.{Settings}
@@ -23,16 +23,17 @@ use Rattle.controller_messages.specs.RecordRequests.{most_record_octets}
 use Rattle.pn_values.specs.demo.Demo.{demo_real}
 use Rattle.script_session.specs.Demo.{default_choices, demo_device}
 use Rattle.script_session.specs.declared.demo.DemoOptions.{DemoOptions}
-use Rattle.script_session.specs.Ends.{Station, Turned, due_of, serving, services_at, station_step, Other, Network, DeviceRun, with_ends, arrived_at, chosen, cleared, device_run, frames_for_device, may_request, nobody, printed_for, ticked_by, with_fresh, with_plan, with_run, with_sent}
+use Rattle.script_session.specs.Ends.{Station, Turned, due_of, serving, services_at, station_step, Other, Network, DeviceRun, with_ends, arrived_at, chosen, cleared, device_run, frames_for_device, heard_by, let_out, may_request, nobody, out_from, printed_for, ticked_by, with_fresh, with_plan, with_run, with_sent}
 use Rattle.station.specs.Serving.{Serving}
 use Rattle.script_lines.specs.Places.{places_shown}
-use Rattle.script_lines.specs.Line.{Command, Frame, Restart, Tick, Elapse, Show, Due, Choose, Ready, Arm, Input, Alarm, Status, Diagnosis, Provider, Config, Start, Give, OutputStatus, Stop, Stands, Told, Read, Write, Reply, Places, Deliver, Serve, ReadyAt, Pull, PullModule, Plug, Expected, Asked, AnswerRead, AnswerWrite, Refuse, Line, Unfit, Skipped, Asks, Unknown}
+use Rattle.script_lines.specs.Line.{Command, Frame, Restart, Tick, Elapse, Show, Due, Choose, Ready, Arm, Input, Alarm, Status, Diagnosis, Provider, Config, Start, Give, OutputStatus, Stop, Stands, Told, Read, Write, Reply, Places, Deliver, Serve, ReadyAt, Pull, PullModule, Plug, Expected, Asked, AnswerRead, AnswerWrite, Refuse, StartAlone, Hear, Value, LastRefused, Line, Unfit, Skipped, Asks, Unknown}
 use Rattle.script_lines.specs.declared.command.Choice.{Choice}
 use Rattle.script_lines.specs.Expected.{expected_shown}
 use Rattle.asked_records.specs.Asked.{seen_in}
 use Rattle.script_lines.specs.Asked.{asked_line}
 use Rattle.script_lines.specs.Show.{shown, outputs_shown, controller_shown, diagnoses_shown, due_line, provider_line}
-use Rattle.script_lines.specs.Reports.{reply_line, told_shown}
+use Rattle.script_lines.specs.Reports.{refused_line, reply_line, told_shown, value_line}
+use Rattle.cyclic_data.specs.exchange.Process.{value_at}
 use Rattle.script_lines.specs.Text.{boot_line, moved_line, note_line, printed}
 
 -- The demo device, started with these options from these settings, with services that begin with it or without any.
@@ -132,24 +133,63 @@ pub data Outcome : Type 0 where
   Refuses : Outcome
   HasNoPlan : (catalogue : List ℕ) → Outcome
 
--- The other end is now this one, and the line prints the state of the controller.
+-- What a line of the controller prints: what it sent, if it is alone, and its state.
+abbrev pub other_shown : Other → List ℕ
+other_shown other = out_from other.is_alone other.to_device ++ controller_shown other.controller
+
+-- The other end is now this one, and the line prints what its controller sent, if it is alone, and its state.
 abbrev pub at_other : Network → Other → Outcome
-at_other network other = Answers (record { network = with_ends network.station other; text = controller_shown other.controller })
+at_other network other = Answers (record { network = with_ends network.station (let_out other); text = other_shown other })
 
 -- What the line `config` does: the plan of its catalogue, or that it has none.
 abbrev pub config_outcome : Network → List ℕ → Option Parts → Outcome
 config_outcome network catalogue (Some plan) = Answers (record { network = with_ends network.station (with_plan network.other plan); text = printed (codes "plan ok") })
 config_outcome network catalogue None = HasNoPlan catalogue
 
--- What the line `start` does, if there is a plan.
-abbrev pub start_outcome : Network → List ℕ → List ℕ → Option Parts → Outcome
-start_outcome network ar activity (Some plan) = at_other network (with_fresh network.other plan ar activity)
-start_outcome network ar activity None = Refuses
+-- What the lines `start` and `alone` do, if there is a plan.
+abbrev pub start_outcome : Network → Bool → List ℕ → List ℕ → Option Parts → Outcome
+start_outcome network is_alone ar activity (Some plan) = at_other network (with_fresh is_alone network.other plan ar activity)
+start_outcome network is_alone ar activity None = Refuses
 
 -- What an event of the controller does, if there is a controller.
 abbrev pub heard_outcome : Network → ControllerEvent → Option Controlling → Outcome
 heard_outcome network event (Some controller) = at_other network (with_run network.other (controller_step controller event))
 heard_outcome network event None = Refuses
+
+-- What the line `hear` does, if there is a controller.
+abbrev pub frame_outcome : Network → ArrayVec ℕ → Option Controlling → Outcome
+frame_outcome network octets (Some controller) = at_other network (heard_by controller network.other octets)
+frame_outcome network octets None = Refuses
+
+-- Units of time at the controller that is alone.
+abbrev pub passed_outcome : Network → ℕ → Option Controlling → Outcome
+passed_outcome network units (Some controller) = at_other network (ticked_by (Some controller) network.other units)
+passed_outcome network units None = Refuses
+
+-- What the lines `tick` and `elapse` do: units of time at both ends, or at the controller that is alone.
+abbrev pub ticked_outcome : Network → Bool → ℕ → Outcome
+ticked_outcome network true units = passed_outcome network units network.other.controller
+ticked_outcome network false units = Answers (tick_answer network units)
+
+-- An input of the controller is shown.
+abbrev pub value_shown : ℕ → ℕ → Option Controlling → List ℕ
+value_shown slot subslot (Some controller) = value_line (value_at controller.live.cyclic slot subslot)
+value_shown slot subslot None = []
+
+-- What the line `value` prints, if there is a controller.
+abbrev pub value_outcome : Network → ℕ → ℕ → Option Controlling → Outcome
+value_outcome network slot subslot (Some controller) = Answers (record { network = network; text = value_shown slot subslot (Some controller) })
+value_outcome network slot subslot None = Refuses
+
+-- The last record of its plan that the device refused to the controller is shown.
+abbrev pub refused_shown : Option Controlling → List ℕ
+refused_shown (Some controller) = refused_line controller
+refused_shown None = []
+
+-- What the line `refused` prints, if there is a controller.
+abbrev pub refused_outcome : Network → Option Controlling → Outcome
+refused_outcome network (Some controller) = Answers (record { network = network; text = refused_shown (Some controller) })
+refused_outcome network None = Refuses
 
 -- The diagnoses that the controller knows of are shown.
 abbrev pub stands_outcome : Network → Option Controlling → Outcome
@@ -218,8 +258,8 @@ deliver_outcome network None = Refuses
 unfoldable pub said : (List ℕ → Option Parts) → Network → Command → Outcome
 said plans network (Frame bytes) = Answers (event_answer network (event.Frame (handed bytes)))
 said plans network Restart = Answers (restart_answer network)
-said plans network (Tick units) = Answers (tick_answer network units)
-said plans network (Elapse units) = Answers (tick_answer network units)
+said plans network (Tick units) = ticked_outcome network network.other.is_alone units
+said plans network (Elapse units) = ticked_outcome network network.other.is_alone units
 said plans network Show = Answers (show_answer network)
 said plans network Due = Answers (due_answer network)
 said plans network (Choose choice) = Answers (choose_answer network choice)
@@ -231,7 +271,11 @@ said plans network (Status slot subslot is_good) = Answers (local_answer network
 said plans network (Diagnosis slot subslot channel error appears) = Answers (local_answer network (local.Diagnosis slot subslot channel error appears))
 said plans network (Provider slot subslot) = Answers (provider_answer network slot subslot)
 said plans network (Config catalogue) = config_outcome network catalogue (plans catalogue)
-said plans network (Start ar activity) = start_outcome network ar activity network.other.plan
+said plans network (Start ar activity) = start_outcome network false ar activity network.other.plan
+said plans network (StartAlone ar activity) = start_outcome network true ar activity network.other.plan
+said plans network (Hear bytes) = frame_outcome network (handed bytes) network.other.controller
+said plans network (Value slot subslot) = value_outcome network slot subslot network.other.controller
+said plans network LastRefused = refused_outcome network network.other.controller
 said plans network (Give slot subslot bytes) = heard_outcome network (heard.Give slot subslot (handed bytes)) network.other.controller
 said plans network (OutputStatus slot subslot is_good) = heard_outcome network (heard.Status slot subslot is_good) network.other.controller
 said plans network Stands = stands_outcome network network.other.controller
@@ -254,10 +298,51 @@ said plans network (AnswerRead number octets) = Answers (local_answer network (l
 said plans network (AnswerWrite number) = Answers (local_answer network (local.Written number))
 said plans network (Refuse number code1 code2) = Answers (local_answer network (local.Refuse number code1 code2))
 
+-- A command that is valid only while the controller is alone.
+abbrev pub needs_alone : Command → Bool
+needs_alone (Hear bytes) = true
+needs_alone (Value slot subslot) = true
+needs_alone command = false
+
+-- A command that is valid while the controller is alone.
+abbrev pub is_of_alone : Command → Bool
+is_of_alone (StartAlone ar activity) = true
+is_of_alone (Start ar activity) = true
+is_of_alone (Config catalogue) = true
+is_of_alone (Hear bytes) = true
+is_of_alone (Tick units) = true
+is_of_alone (Elapse units) = true
+is_of_alone (Give slot subslot bytes) = true
+is_of_alone (OutputStatus slot subslot is_good) = true
+is_of_alone Stop = true
+is_of_alone (Read slot subslot index) = true
+is_of_alone (Write slot subslot index octets) = true
+is_of_alone Reply = true
+is_of_alone (Value slot subslot) = true
+is_of_alone LastRefused = true
+is_of_alone Told = true
+is_of_alone Stands = true
+is_of_alone Places = true
+is_of_alone command = false
+
+-- Whether a command is valid, if the controller is alone, and if it is not.
+abbrev pub is_valid : Bool → Command → Bool
+is_valid true command = is_of_alone command
+is_valid false command = not (needs_alone command)
+
+-- The outcome of a command that is valid, or not.
+abbrev pub said_if : Bool → (List ℕ → Option Parts) → Network → Command → Outcome
+said_if true plans network command = said plans network command
+said_if false plans network command = Refuses
+
+-- The outcome of a command.
+abbrev pub said_here : (List ℕ → Option Parts) → Network → Command → Outcome
+said_here plans network command = said_if (is_valid network.other.is_alone command) plans network command
+
 -- The outcome of a line.
 abbrev pub outcome_of : (List ℕ → Option Parts) → Network → Line → Outcome
 outcome_of plans network Skipped = Answers (unchanged network)
-outcome_of plans network (Asks command) = said plans network command
+outcome_of plans network (Asks command) = said_here plans network command
 outcome_of plans network Unfit = Refuses
 outcome_of plans network Unknown = Refuses
 
@@ -299,6 +384,10 @@ arms Asked = false
 arms (AnswerRead number octets) = false
 arms (AnswerWrite number) = false
 arms (Refuse number code1 code2) = false
+arms (StartAlone ar activity) = false
+arms (Hear bytes) = false
+arms (Value slot subslot) = false
+arms LastRefused = false
 
 -- A line that orders a failure of the flash.
 abbrev pub is_order : Line → Bool

@@ -1,11 +1,13 @@
 // The other end of the wire: the controller, and the frames that wait between the two ends; and the options of the
 // device's next start.
-ghost use Rattle.std.specs.Prelude.{◌≡◌, ◌≤◌, ◌++◌, OnOk, IfOk, flat_map, replicate};
+ghost use Rattle.std.specs.Prelude.{◌≡◌, ◌≤◌, ◌++◌, [], OnOk, IfOk, flat_map, length, replicate};
+ghost use Rattle.std.specs.List.{cons_option};
+ghost use Rattle.controller_dcp.specs.Station.{answer_to};
 ghost use Rattle.controller_core.specs.Leaps.{live_due_in};
 ghost use Rattle.controller_core.specs.Machine.{end_of, report_in, step_of};
 ghost use Rattle.controller_core.specs.declared.stored.event.Event.TheVariants as event;
 ghost use Rattle.script_lines.specs.Reports.{told_line};
-ghost use Rattle.script_session.specs.Ends.{IsRun, Station, alarms_in, controller_run, device_run, frames_for_controller, frames_for_device};
+ghost use Rattle.script_session.specs.Ends.{IsRun, Station, alarms_in, answering_step, controller_run, device_run, frames_for_controller, frames_for_device};
 ghost use Rattle.script_session.specs.Ends.{news_by, news_of, octets_of};
 ghost use Rattle.script_session.specs.Off.{Delivers};
 ghost use Rattle.script_session.specs.Power.{Runs};
@@ -28,8 +30,8 @@ use std::marker::Model;
 use uuid::Uuid;
 
 /// What is kept besides the station: the options of its next start, whether services begin with that, and the other end of
-/// the wire: the plan of the next controller, the controller once there is one, the lines of the alarms that it accepted, and
-/// the frames that wait at either end. In clauses it is these seven.
+/// the wire: the plan of the next controller, the controller once there is one, whether it is alone, the lines of the alarms
+/// that it accepted, and the frames that wait at either end. In clauses it is these eight.
 #[derive(Drop)]
 pub(crate) struct OtherEnd {
     alloc: Global,
@@ -37,6 +39,7 @@ pub(crate) struct OtherEnd {
     serves: bool,
     plan: Option<Plan>,
     controller: Option<Controller>,
+    is_alone: bool,
     told: Vec<u8>,
     to_device: Vec<Frame>,
     to_controller: Vec<Frame>,
@@ -53,6 +56,7 @@ impl Model for OtherEnd {
       serves = end.serves;
       plan = end.plan;
       controller = end.controller;
+      is_alone = end.is_alone;
       told = end.told.items;
       to_device = octets_of end.to_device.items;
       to_controller = octets_of end.to_controller.items;
@@ -60,14 +64,14 @@ impl Model for OtherEnd {
 }
 
 impl OtherEnd {
-    ghost use Rattle.std.specs.Prelude.{is_some, length, option_map};
+    ghost use Rattle.std.specs.Prelude.{is_some, option_map};
     ghost use Rattle.script_lines.specs.Reports.{told_shown};
     ghost use Rattle.script_lines.specs.Places.{known_places};
     ghost use Rattle.script_lines.specs.Show.{controller_shown, known_shown};
     ghost use Rattle.station.specs.State.{in_order};
-    ghost use Rattle.script_session.specs.Ends.{Hears, Plans, Starts, arrived_at, chosen, cleared, may_request, nobody, printed_for, serving};
-    ghost use Rattle.script_session.specs.Ends.{ticked_by, with_sent};
-    ghost use Rattle.script_session.specs.Said.{reply_shown};
+    ghost use Rattle.script_session.specs.Ends.{Hears, HearsFrame, Plans, Starts, arrived_at, chosen, cleared, let_out, may_request, nobody, out_from};
+    ghost use Rattle.script_session.specs.Ends.{printed_for, serving, ticked_by, waiting_for, with_sent};
+    ghost use Rattle.script_session.specs.Said.{other_shown, refused_shown, reply_shown, value_shown};
 
     /// The other end before a catalogue was read: no plan, no controller and no frames. All options have their defaults, and
     /// there are no services.
@@ -80,6 +84,7 @@ impl OtherEnd {
             serves: false,
             plan: None,
             controller: None,
+            is_alone: false,
             told: Vec::new(alloc),
             to_device: Vec::new(alloc),
             to_controller: Vec::new(alloc),
@@ -137,6 +142,42 @@ impl OtherEnd {
         self.controller.is_some()
     }
 
+    /// Whether the controller is alone.
+    pub(crate) fn is_alone(&self) -> bool
+        ensures { result ≡ self.now.is_alone }
+    {
+        self.is_alone
+    }
+
+    /// Appends what the controller sent, if it is alone, and then its state, if there is a controller.
+    pub(crate) fn show_sent(&mut self, text: &mut Vec<u8>) -> Result<(), AllocError>
+        ensures { OnOk result ((self.new ≡ let_out self.old) × (text.new.items ≡ text.old.items ++ other_shown self.old)) }
+    {
+        self.let_out(text)?;
+        self.show(text)
+    }
+
+    /// Prints the frames of a controller that is alone. None waits any longer.
+    fn let_out(&mut self, text: &mut Vec<u8>) -> Result<(), AllocError>
+        ensures { OnOk result ((self.new ≡ let_out self.old)
+            × (text.new.items ≡ text.old.items ++ out_from self.old.is_alone self.old.to_device)) }
+    {
+        if self.is_alone {
+            render::outs(self.to_device.as_slice(), text)?;
+            self.to_device.clear();
+        }
+        Ok(())
+    }
+
+    /// Drops the frames that wait, if the controller that starts is alone.
+    fn clear_for(&mut self, is_alone: bool)
+        ensures { self.new ≡ waiting_for is_alone self.old }
+    {
+        if is_alone {
+            self.clear();
+        }
+    }
+
     /// Appends the state of the controller, if there is one.
     pub(crate) fn show(&self, text: &mut Vec<u8>) -> Result<(), AllocError>
         ensures { OnOk result (text.new.items ≡ text.old.items ++ controller_shown self.now.controller) }
@@ -163,6 +204,31 @@ impl OtherEnd {
     {
         match &self.controller {
             Some(controller) => places::places(controller, text),
+            None => Ok(()),
+        }
+    }
+
+    /// Appends an input of the controller, if there is a controller.
+    pub(crate) fn show_value(
+        &self,
+        slot: u16,
+        subslot: u16,
+        text: &mut Vec<u8>,
+    ) -> Result<(), AllocError>
+        ensures { OnOk result (text.new.items ≡ text.old.items ++ value_shown slot subslot self.now.controller) }
+    {
+        match &self.controller {
+            Some(controller) => reports::value(controller.value(slot, subslot), text),
+            None => Ok(()),
+        }
+    }
+
+    /// Appends the last record of its plan that the device refused to the controller, if there is a controller.
+    pub(crate) fn show_refused(&self, text: &mut Vec<u8>) -> Result<(), AllocError>
+        ensures { OnOk result (text.new.items ≡ text.old.items ++ refused_shown self.now.controller) }
+    {
+        match &self.controller {
+            Some(controller) => reports::refused(controller, text),
             None => Ok(()),
         }
     }
@@ -231,18 +297,44 @@ impl OtherEnd {
         Ok(())
     }
 
-    /// Replaces the controller by a new one with the plan. Its first request waits after the frames that wait already.
-    /// Returns whether there is a plan.
-    pub(crate) fn start(&mut self, ar: Uuid, activity: Uuid) -> Result<bool, AllocError>
-        ensures { IfOk result (Starts self.old.plan self.old ar activity self.new) }
+    /// Replaces the controller by a new one with the plan, alone or at the other end of the wire. Its first request waits after
+    /// the frames that wait already; these are dropped if it is alone. Returns whether there is a plan.
+    pub(crate) fn start(
+        &mut self,
+        ar: Uuid,
+        activity: Uuid,
+        is_alone: bool,
+    ) -> Result<bool, AllocError>
+        ensures { IfOk result (Starts self.old.plan is_alone self.old ar activity self.new) }
     {
         let Some(plan) = &self.plan else {
             return Ok(false);
         };
         let controller = Controller::new(plan_copy(plan), ar, activity);
+        self.clear_for(is_alone);
         self.to_device.push(controller.opening())?;
         self.controller = Some(controller);
+        self.is_alone = is_alone;
         self.told.clear();
+        Ok(true)
+    }
+
+    /// Hands octets from the network to the controller. What it sends waits, also its answer to a tool. Returns whether there is
+    /// a controller.
+    pub(crate) fn hear(&mut self, octets: &[u8]) -> Result<bool, AllocError>
+        requires { length octets.now ≤ 1519 }
+        ensures { IfOk result (HearsFrame self.old.controller self.old octets.now self.new) }
+    {
+        let Some(controller) = &mut self.controller else {
+            return Ok(false);
+        };
+        converse(
+            controller,
+            octets,
+            &mut self.outbox,
+            &mut self.to_device,
+            &mut self.told,
+        )?;
         Ok(true)
     }
 
@@ -425,6 +517,40 @@ fn listen(
     step(controller, event, outbox, to_device)?;
     tell(controller, Priority::High, high, told)?;
     tell(controller, Priority::Low, low, told)
+}
+
+/// Hands a frame to the controller, appends the line of the alarm that it accepts in it, if it does, and its answer to a tool.
+fn converse(
+    controller: &mut Controller,
+    octets: &[u8],
+    outbox: &mut Outbox,
+    to_device: &mut Vec<Frame>,
+    told: &mut Vec<u8>,
+) -> Result<(), AllocError>
+    requires { length octets.now ≤ 1519 }
+    ensures run { OnOk result (IsRun (answering_step controller.old (record { items = octets.now })) controller.new to_device.old.items
+        to_device.new.items) }
+    ensures told { OnOk result (told.new.items ≡ told.old.items
+        ++ flat_map told_line (news_of controller.old (answering_step controller.old (record { items = octets.now })).controller)) }
+{
+    let event = Event::Frame(copied(octets));
+    listen(controller, &event, outbox, to_device, told)?;
+    answer(controller, octets, outbox, to_device)
+}
+
+/// Appends the answer of the controller to a tool, if these octets are a request of one.
+fn answer(
+    controller: &Controller,
+    octets: &[u8],
+    outbox: &mut Outbox,
+    to_device: &mut Vec<Frame>,
+) -> Result<(), AllocError>
+    ensures { OnOk result (octets_of to_device.new.items
+        ≡ octets_of to_device.old.items ++ cons_option (answer_to controller.now.setup.plan octets.now) []) }
+{
+    outbox.clear();
+    controller_dcp::answer(controller.plan(), octets, outbox);
+    append(outbox.as_slice(), to_device)
 }
 
 /// Appends the line of the last alarm of a priority, unless it was accepted before: then `before` is its SendSeqNum.

@@ -3,9 +3,9 @@ ghost use Rattle.std.specs.Prelude.{◌≡◌, ◌++◌, IfOk, IsErr, MatchResul
 ghost use Rattle.controller_core.specs.declared.stored.event.Event.TheVariants as heard;
 ghost use Rattle.device_frames.specs.declared.event.Event.TheVariants as event;
 ghost use Rattle.configurator.specs.declared.fault.PlanFault.TheVariants as plan_fault;
-ghost use Rattle.script_lines.specs.Read.{line_read};
+ghost use Rattle.script_lines.specs.Read.{command_read, line_read};
 ghost use Rattle.script_session.specs.Ends.{Network};
-ghost use Rattle.script_session.specs.Said.{event_answer, handed, local_answer};
+ghost use Rattle.script_session.specs.Said.{event_answer, handed, is_of_alone, is_valid, local_answer, needs_alone};
 ghost use Rattle.script_session.specs.Power.{IsDemo, IsRunning};
 ghost use Rattle.script_session.specs.Off.{TellsLoss, is_heard_off};
 ghost use Rattle.script_session.specs.Session.{IsObeyed};
@@ -46,18 +46,18 @@ impl<'a> Model for Session<'a> {
 }
 
 impl<'a> Session<'a> {
-    ghost use Rattle.std.specs.Prelude.{ℕ, List, Option, false};
+    ghost use Rattle.std.specs.Prelude.{◌||◌, ℕ, List, Option, false};
     ghost use Rattle.plans.specs.declared.parts.Parts.{Parts};
     ghost use Rattle.flash_model.specs.Image.{erased};
     ghost use Rattle.flash_model.specs.Memory.{image_of, IsReliable};
     ghost use Rattle.script_lines.specs.Line.{Arm, Asks, Restart, meaning_of};
-    ghost use Rattle.script_lines.specs.Read.{command_read};
     ghost use Rattle.script_lines.specs.Text.{boot_line};
     ghost use Rattle.script_session.specs.Ends.{IsRightFor, cleared, nobody};
     ghost use Rattle.script_session.specs.Said.{arms, config_outcome, deliver_answer, deliver_outcome, factory_device};
     ghost use Rattle.script_session.specs.Said.{heard_outcome, is_order, outcome_of, restart_answer, said, serve_answer, show_answer, stands_outcome, start_outcome};
     ghost use Rattle.script_session.specs.Said.{asked_answer, due_answer, expected_answer, fits_record, places_outcome, provider_answer};
-    ghost use Rattle.script_session.specs.Said.{record_outcome, reply_outcome, tick_answer, told_outcome};
+    ghost use Rattle.script_session.specs.Said.{frame_outcome, passed_outcome, record_outcome, refused_outcome, reply_outcome, said_here, tick_answer};
+    ghost use Rattle.script_session.specs.Said.{ticked_outcome, told_outcome, value_outcome};
     ghost use Rattle.script_session.specs.Power.{IsArmed, IsBack, is_off, refusal_of};
     ghost use Rattle.script_session.specs.Session.{Are, AreRightFor, Comes, Obeys};
     ghost use Rattle.script_session.specs.Off.{Delivers, GivesBack, Leaves, LeavesBy, Orders, TakesOff, TakesOrder, hands, is_handed};
@@ -100,9 +100,9 @@ impl<'a> Session<'a> {
         ensures lost { is_handed (meaning_of line.now) ≡ true →
             TellsLoss (LeavesBy (meaning_of line.now) self.old.other self.new.other) self.old.power self.new.power text.old.items
             text.new.items result }
-        // While the power is on, an order to the flash becomes pending, changes nothing else and prints nothing, or
-        // memory was refused.
-        ensures ordered { is_off self.old.power ≡ false →
+        // While the power is on, and no controller is alone, an order to the flash becomes pending, changes nothing else and
+        // prints nothing, or memory was refused.
+        ensures ordered { is_off self.old.power ≡ false → self.old.other.is_alone ≡ false →
             TakesOrder (meaning_of line.now) self.old self.new text.old.items text.new.items result }
         ensures demo { IsDemo self.old.power → IsDemo self.new.power }
     {
@@ -120,10 +120,40 @@ impl<'a> Session<'a> {
             return always(text.extend_from_slice(b"off\n"));
         }
         match meaning {
-            Line::Asks(command) => self.answer(command, text),
+            Line::Asks(command) => self.carry_out(command, text),
             Line::Skipped => Ok(true),
             Line::Unfit | Line::Unknown => Ok(false),
         }
+    }
+
+    /// Carries out a command, if it is valid here, and renders what it prints. Returns whether it is: while a controller is alone
+    /// only its lines are, and some of these only then. Without power each command that gets here is carried out.
+    #[inline(always)]
+    #[tactic(auto, using(crate::proofs::Obeying::invalid_obeys, crate::proofs::Obeying::none_lost, crate::proofs::Obeying::off_is_valid, crate::proofs::Obeying::order_is_valid, crate::proofs::Obeying::valid_obeys))]
+    fn carry_out(&mut self, command: Command<'_>, text: &mut Vec<u8>) -> Result<bool, PlanFault>
+        ensures obeys { (plans : List ℕ → Option Parts) (network : Network) → AreRightFor plans (Asks (command_read command.entry)) →
+            Are network self.old → arms (command_read command.entry) ≡ false →
+            Obeys (said_here plans network (command_read command.entry)) self.new text.old.items text.new.items result }
+        ensures back { is_off self.old.power ≡ true → command_read command.entry ≡ Restart →
+            GivesBack self.old self.new text.old.items text.new.items result }
+        ensures armed { self.old.other.is_alone ≡ false → (order : Order) → command_read command.entry ≡ Arm order →
+            Orders order self.old self.new text.old.items text.new.items result }
+        ensures lost { hands (command_read command.entry) ≡ true →
+            TellsLoss (Leaves (command_read command.entry) self.old.other self.new.other) self.old.power self.new.power text.old.items
+            text.new.items result }
+        ensures demo { IsDemo self.old.power → IsDemo self.new.power }
+    {
+        if self.is_heard(&command) {
+            return self.answer(command, text);
+        }
+        Ok(false)
+    }
+
+    /// Whether a command is carried out: there is no power, or it is valid here.
+    fn is_heard(&self, command: &Command<'_>) -> bool
+        ensures { result ≡ (is_off self.now.power || is_valid self.now.other.is_alone (command_read command.now)) }
+    {
+        self.power.is_off() || is_valid(self.other.is_alone(), command)
     }
 
     /// Carries out a command, and renders what it prints. Returns whether it is valid here. It is inlined into `take`:
@@ -155,8 +185,8 @@ impl<'a> Session<'a> {
             }
             Command::Provider(slot, subslot) => always(self.provider(slot, subslot, text)),
             Command::Restart => always(self.restart(text)),
-            Command::Tick(units) => always(self.tick(units, text)),
-            Command::Elapse(units) => always(self.elapse(units, text)),
+            Command::Tick(units) => if_there(self.tick(units, text)),
+            Command::Elapse(units) => if_there(self.elapse(units, text)),
             Command::Show => always(self.show(text)),
             Command::Due => always(self.due(text)),
             Command::Choose(choice) => {
@@ -190,7 +220,11 @@ impl<'a> Session<'a> {
                 Ok(true)
             }
             Command::Config(catalogue) => self.config(catalogue, text),
-            Command::Start(ar, activity) => if_there(self.start(ar, activity, text)),
+            Command::Start(ar, activity) => if_there(self.start(ar, activity, false, text)),
+            Command::StartAlone(ar, activity) => if_there(self.start(ar, activity, true, text)),
+            Command::Hear(bytes) => if_there(self.hear_frame(bytes, text)),
+            Command::Value(slot, subslot) => if_there(self.value(slot, subslot, text)),
+            Command::LastRefused => if_there(self.refused(text)),
             Command::Give(slot, subslot, bytes) => {
                 if_there(self.give_output(slot, subslot, bytes, text))
             }
@@ -287,8 +321,66 @@ impl<'a> Session<'a> {
         render::boot(self.power.refusal(), text)
     }
 
+    /// Lets units of time pass, at both ends or at the controller that is alone. Returns whether there is one then.
+    #[inline(never)]
+    #[tactic(auto, using(crate::proofs::Coming::ticked_alone, crate::proofs::Coming::ticked_both))]
+    fn tick(&mut self, units: u32, text: &mut Vec<u8>) -> Result<bool, AllocError>
+        ensures obeys { (network : Network) → Are network self.old →
+            IfOk result (Comes (ticked_outcome network network.other.is_alone units) self.new text.old.items text.new.items) }
+        ensures demo { IsDemo self.old.power → IsDemo self.new.power }
+    {
+        if self.other.is_alone() {
+            return self.pass(units, text);
+        }
+        self.tick_both(units, text)?;
+        Ok(true)
+    }
+
+    /// The same by leaps: it does what as many single units do.
+    #[inline(never)]
+    #[tactic(auto, using(crate::proofs::Coming::ticked_alone, crate::proofs::Coming::ticked_both))]
+    fn elapse(&mut self, units: u32, text: &mut Vec<u8>) -> Result<bool, AllocError>
+        ensures obeys { (network : Network) → Are network self.old →
+            IfOk result (Comes (ticked_outcome network network.other.is_alone units) self.new text.old.items text.new.items) }
+        ensures demo { IsDemo self.old.power → IsDemo self.new.power }
+    {
+        if self.other.is_alone() {
+            return self.leap(units, text);
+        }
+        self.elapse_both(units, text)?;
+        Ok(true)
+    }
+
+    /// Lets units of time pass at the controller. Returns whether there is one.
+    fn pass(&mut self, units: u32, text: &mut Vec<u8>) -> Result<bool, AllocError>
+        ensures obeys { (network : Network) → Are network self.old →
+            IfOk result (Comes (passed_outcome network units network.other.controller) self.new text.old.items text.new.items) }
+        ensures same { self.new.power ≡ self.old.power }
+    {
+        if !self.other.is_started() {
+            return Ok(false);
+        }
+        self.other.ticks(units)?;
+        self.other.show_sent(text)?;
+        Ok(true)
+    }
+
+    /// The same by leaps.
+    fn leap(&mut self, units: u32, text: &mut Vec<u8>) -> Result<bool, AllocError>
+        ensures obeys { (network : Network) → Are network self.old →
+            IfOk result (Comes (passed_outcome network units network.other.controller) self.new text.old.items text.new.items) }
+        ensures same { self.new.power ≡ self.old.power }
+    {
+        if !self.other.is_started() {
+            return Ok(false);
+        }
+        self.other.leaps(units)?;
+        self.other.show_sent(text)?;
+        Ok(true)
+    }
+
     /// Lets units of time pass at both ends.
-    fn tick(&mut self, units: u32, text: &mut Vec<u8>) -> Result<(), AllocError>
+    fn tick_both(&mut self, units: u32, text: &mut Vec<u8>) -> Result<(), AllocError>
         ensures obeys { (network : Network) → Are network self.old →
             OnOk result (IsObeyed (tick_answer network units) self.new text.old.items text.new.items) }
         ensures demo { IsDemo self.old.power → IsDemo self.new.power }
@@ -304,7 +396,7 @@ impl<'a> Session<'a> {
     }
 
     /// Lets units of time pass at both ends, by leaps: it does what as many single units do.
-    fn elapse(&mut self, units: u32, text: &mut Vec<u8>) -> Result<(), AllocError>
+    fn elapse_both(&mut self, units: u32, text: &mut Vec<u8>) -> Result<(), AllocError>
         ensures obeys { (network : Network) → Are network self.old →
             OnOk result (IsObeyed (tick_answer network units) self.new text.old.items text.new.items) }
         ensures demo { IsDemo self.old.power → IsDemo self.new.power }
@@ -383,16 +475,65 @@ impl<'a> Session<'a> {
         always(text.extend_from_slice(b"plan ok\n"))
     }
 
-    /// Starts a controller at the other end. Returns whether there is a plan for it.
-    fn start(&mut self, ar: Uuid, activity: Uuid, text: &mut Vec<u8>) -> Result<bool, AllocError>
+    /// Starts a controller, alone or at the other end. Returns whether there is a plan for it.
+    fn start(
+        &mut self,
+        ar: Uuid,
+        activity: Uuid,
+        is_alone: bool,
+        text: &mut Vec<u8>,
+    ) -> Result<bool, AllocError>
         ensures obeys { (network : Network) → Are network self.old →
-            IfOk result (Comes (start_outcome network ar activity network.other.plan) self.new text.old.items text.new.items) }
+            IfOk result (Comes (start_outcome network is_alone ar activity network.other.plan) self.new text.old.items text.new.items) }
         ensures same { self.new.power ≡ self.old.power }
     {
-        if !self.other.start(ar, activity)? {
+        if !self.other.start(ar, activity, is_alone)? {
             return Ok(false);
         }
-        self.other.show(text)?;
+        self.other.show_sent(text)?;
+        Ok(true)
+    }
+
+    /// Hands bytes to the controller, as if from the network. At most the first 1,519 bytes count. Returns whether there is a
+    /// controller.
+    #[inline(never)]
+    fn hear_frame(&mut self, bytes: &[u8], text: &mut Vec<u8>) -> Result<bool, AllocError>
+        ensures obeys { (network : Network) → Are network self.old →
+            IfOk result (Comes (frame_outcome network (handed bytes.now) network.other.controller) self.new text.old.items text.new.items) }
+        ensures same { self.new.power ≡ self.old.power }
+    {
+        if !self.other.hear(at_most(bytes, 1519))? {
+            return Ok(false);
+        }
+        self.other.show_sent(text)?;
+        Ok(true)
+    }
+
+    /// Shows an input of the controller. Returns whether there is a controller.
+    #[inline(never)]
+    fn value(&mut self, slot: u16, subslot: u16, text: &mut Vec<u8>) -> Result<bool, AllocError>
+        ensures obeys { (network : Network) → Are network self.old →
+            IfOk result (Comes (value_outcome network slot subslot network.other.controller) self.new text.old.items text.new.items) }
+        ensures same { self.new ≡ self.old }
+    {
+        if !self.other.is_started() {
+            return Ok(false);
+        }
+        self.other.show_value(slot, subslot, text)?;
+        Ok(true)
+    }
+
+    /// Shows the last record of the controller's plan that the device refused. Returns whether there is a controller.
+    #[inline(never)]
+    fn refused(&mut self, text: &mut Vec<u8>) -> Result<bool, AllocError>
+        ensures obeys { (network : Network) → Are network self.old →
+            IfOk result (Comes (refused_outcome network network.other.controller) self.new text.old.items text.new.items) }
+        ensures same { self.new ≡ self.old }
+    {
+        if !self.other.is_started() {
+            return Ok(false);
+        }
+        self.other.show_refused(text)?;
         Ok(true)
     }
 
@@ -563,7 +704,7 @@ impl<'a> Session<'a> {
         if !self.other.take(event)? {
             return Ok(false);
         }
-        self.other.show(text)?;
+        self.other.show_sent(text)?;
         Ok(true)
     }
 
@@ -649,6 +790,50 @@ fn handed(bytes: &[u8]) -> Bytes
     ensures { result ≡ handed bytes.now }
 {
     copied(at_most(bytes, 1519))
+}
+
+/// Whether a command is valid, if the controller is alone, and if it is not.
+fn is_valid(is_alone: bool, command: &Command<'_>) -> bool
+    ensures { result ≡ is_valid is_alone (command_read command.now) }
+{
+    if is_alone {
+        is_of_alone(command)
+    } else {
+        !needs_alone(command)
+    }
+}
+
+/// Whether a command is valid only while the controller is alone.
+fn needs_alone(command: &Command<'_>) -> bool
+    ensures { result ≡ needs_alone (command_read command.now) }
+{
+    matches!(command, Command::Hear(_) | Command::Value(_, _))
+}
+
+/// Whether a command is valid while the controller is alone.
+fn is_of_alone(command: &Command<'_>) -> bool
+    ensures { result ≡ is_of_alone (command_read command.now) }
+{
+    matches!(
+        command,
+        Command::StartAlone(_, _)
+            | Command::Start(_, _)
+            | Command::Config(_)
+            | Command::Hear(_)
+            | Command::Tick(_)
+            | Command::Elapse(_)
+            | Command::Give(_, _, _)
+            | Command::OutputStatus(_, _, _)
+            | Command::Stop
+            | Command::Read(_, _, _)
+            | Command::Write(_, _, _, _)
+            | Command::Reply
+            | Command::Value(_, _)
+            | Command::LastRefused
+            | Command::Told
+            | Command::Stands
+            | Command::Places
+    )
 }
 
 /// Whether a line gives more than `off` while the power is off: it is skipped, is not a valid script line, or switches

@@ -23,11 +23,11 @@ returns-in-Restart-clause-obeys c plans network right are plain = rw c.in-Restar
 
 pub returns-in-Tick-clause-obeys : goal.returns-in-Tick-clause-obeys
 unfolding said
-returns-in-Tick-clause-obeys c plans network right are plain = rw c.in-Tick.is (always_obeys _ _ _ _ _ _ (c.tick.ensures.obeys network are) c.always-in-Tick.ensures)
+returns-in-Tick-clause-obeys c plans network right are plain = rw c.in-Tick.is (if_there_obeys _ _ _ _ _ _ (c.tick.ensures.obeys network are) c.if_there.ensures)
 
 pub returns-in-Elapse-clause-obeys : goal.returns-in-Elapse-clause-obeys
 unfolding said
-returns-in-Elapse-clause-obeys c plans network right are plain = rw c.in-Elapse.is (always_obeys _ _ _ _ _ _ (c.elapse.ensures.obeys network are) c.always-in-Elapse.ensures)
+returns-in-Elapse-clause-obeys c plans network right are plain = rw c.in-Elapse.is (if_there_obeys _ _ _ _ _ _ (c.elapse.ensures.obeys network are) c.if_there-in-Elapse.ensures)
 
 pub returns-in-Due-clause-obeys : goal.returns-in-Due-clause-obeys
 unfolding said

@@ -25,20 +25,20 @@ returns-in-Skipped-clause-takes c plans network right are plain =
 pub returns-in-Asks-clause-takes : goal.returns-in-Asks-clause-takes
 returns-in-Asks-clause-takes c plans network right are plain =
     let meant = sym c.in-Ok.ensures ∙ ap line_read c.in-Asks.is in
-    rw meant (c.answer.ensures.obeys plans network (subst (AreRightFor plans) meant right) are (subst (λ line. is_order line ≡ false) meant plain))
+    rw meant (c.carry_out.ensures.obeys plans network (subst (AreRightFor plans) meant right) are (subst (λ line. is_order line ≡ false) meant plain))
 
 pub returns-in-Asks-clause-lost : goal.returns-in-Asks-clause-lost
 returns-in-Asks-clause-lost c handed there gone =
     let meant = sym c.in-Ok.ensures ∙ ap line_read c.in-Asks.is in
     let over = subst (λ line. is_handed line ≡ true) meant handed in
-    rw meant (c.answer.ensures.lost over there gone)
+    rw meant (c.carry_out.ensures.lost over there gone)
 
 pub returns-then-is_empty-clause-ordered : goal.returns-then-is_empty-clause-ordered
-returns-then-is_empty-clause-ordered c there =
+returns-then-is_empty-clause-ordered c there both =
     let none : length c.args.line.now ≡ 0 = grind (arith, nat_tests) in
     rw (empty_is_skipped c.args.line.now none) tt
 
 pub returns-in-Asks-clause-ordered : goal.returns-in-Asks-clause-ordered
-returns-in-Asks-clause-ordered c there =
+returns-in-Asks-clause-ordered c there both =
     let meant = sym c.in-Ok.ensures ∙ ap line_read c.in-Asks.is in
-    rw meant (order_taken _ _ _ _ _ _ c.answer.ensures.armed)
+    rw meant (order_taken _ _ _ _ _ _ (c.carry_out.ensures.armed both))
