@@ -1,17 +1,15 @@
 //! A controller as a DCP station: tools find it, read what it is, and get each Set refused.
 //!
 //! `stdin` has scripts one after another, each after a line `script NAME`: those that begin with `small` show one thing each, the others
-//! were drawn at random, a controller alone that starts against a device of the field with tools about. Their lines: `config` reads a
-//! catalogue; `alone` starts a controller without services and without a device; `hear` brings it the octets of a frame, of which the first
-//! 1,519 count; `elapse` lets units pass; `stop` stops it. After each of these, `stdout` has each frame that it sends, in order, and its
-//! state. A last line says how the script ends: `status 0`, or `status 5` for a catalogue that is refused. `stdout` comes from a
-//! reference model that was written from the rules alone and shares no line with this repository.
+//! were drawn at random, a controller alone that starts against a device of the field with tools about (docs/SCRIPTS.md). A last line of
+//! `stdout` says how a script ends: `status 0`, or `status 5` for a catalogue that is refused. `stdout` comes from a reference model that
+//! was written from the rules alone and shares no line with this repository.
 #![cfg(test)]
 
 use configurator::plan_from_json;
-use controller_core::{Cause, Event, State};
+use controller_core::Event;
 use controller_station::{ServedController, ServedOutbox};
-use frame_codec::{Bytes, Frame, Outbox};
+use frame_codec::{Bytes, Outbox};
 use plans::Plan;
 use rattle_std::alloc::Global;
 use test_stations::octets;
@@ -60,26 +58,7 @@ fn identifier(word: &str) -> Uuid {
     Uuid::parse_str(word).expect("an identifier")
 }
 
-/// The word of a state.
-fn word(state: State) -> String {
-    match state {
-        State::Looking => "looking".into(),
-        State::Addressing => "addressing".into(),
-        State::Connecting => "connecting".into(),
-        State::Writing => "writing".into(),
-        State::Ending => "ending".into(),
-        State::Waiting => "waiting".into(),
-        State::Exchanging => "exchanging".into(),
-        State::Ended(cause) => format!("ended {}", Cause::number(cause)),
-    }
-}
-
-/// Whether a frame is one of the services beside the controller: ARP, IPv4 of ICMP, or LLDP. They are off in the scripts.
-fn is_of_services(frame: &Frame) -> bool {
-    frame.as_slice()[12..14] != [0x88, 0x92]
-}
-
-/// A controller alone: what an event prints, and its state.
+/// A controller alone.
 struct Alone {
     served: ServedController,
     outbox: ServedOutbox,
@@ -92,67 +71,13 @@ impl Alone {
             outbox: ServedOutbox::new(),
         }
     }
-
-    /// The lines of the frames that wait in the outbox. What is beside the controller sends DCP answers alone here.
-    fn frames(&self) -> String {
-        let own = self.outbox.controller().iter();
-        let beside = self.outbox.services().iter().filter(|frame| !is_of_services(frame));
-        own.chain(beside).map(|frame| format!("out {}\n", digits(frame.as_slice()))).collect()
-    }
-
-    /// The line of the state.
-    fn state(&self) -> String {
-        format!("state {}\n", word(self.served.controller().state()))
-    }
-
-    /// The lines of what one event sends.
-    fn step(&mut self, event: &Event) -> String {
-        self.served.step(event, &mut self.outbox);
-        self.frames()
-    }
-
-    /// What a line prints.
-    fn line(&mut self, line: &str) -> String {
-        let (name, rest) = line.split_once(' ').unwrap_or((line, ""));
-        let text = match name {
-            "hear" => self.step(&Event::Frame(heard(rest))),
-            "elapse" => (0..rest.parse().expect("a number")).map(|_: u32| self.step(&Event::Tick)).collect(),
-            "stop" => self.step(&Event::Stop),
-            _ => panic!("{line}"),
-        };
-        text + &self.state()
-    }
 }
 
-/// What a script of a controller alone prints, and how it ends.
+/// What a script prints, and how it ends.
 fn printed(script: &str) -> String {
-    let mut text = String::from("boot ok\n");
-    let (mut read, mut alone) = (None, None);
-    for line in script.lines() {
-        if let Some(catalogue) = line.strip_prefix("config ") {
-            read = plan(catalogue);
-            if read.is_none() {
-                return text + "status 5\n";
-            }
-            text += "plan ok\n";
-        } else if let Some(names) = line.strip_prefix("alone ") {
-            let (ar, activity) = names.split_once(' ').expect("two identifiers");
-            let mut started = Alone::new(read.take().expect("a plan"), ar, activity);
-            started.served.send_opening(&mut started.outbox);
-            text += &(started.frames() + &started.state());
-            alone = Some(started);
-        } else {
-            text += &alone.as_mut().expect("a controller").line(line);
-        }
-    }
-    text + "status 0\n"
-}
-
-/// What a script in which the controller meets the demo device prints.
-fn both_printed(script: &str) -> String {
     let mut text = Vec::new();
-    script_runner::run(Global, &mut script.as_bytes(), &mut text).expect("a script");
-    String::from_utf8(text).expect("text") + "status 0\n"
+    let status = script_runner::run(Global, &mut script.as_bytes(), &mut text).err().map_or(0, |fault| fault.number());
+    format!("{}status {status}\n", String::from_utf8(text).expect("text"))
 }
 
 /// The scripts whose plan has what a plan of today does not hold: other APIs than 0, records of slot 0, longer records, or more of them, more
@@ -171,7 +96,7 @@ fn each_script_prints_what_the_model_prints() {
         if LATER.contains(&name) {
             continue;
         }
-        let text = if lines.contains("\nstart ") { both_printed(lines) } else { printed(lines) };
+        let text = printed(lines);
         assert!(text == wanted, "{name}\n{text}\nwanted\n{wanted}");
         whole += 1;
     }

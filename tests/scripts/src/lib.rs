@@ -7,6 +7,7 @@ use rattle_std::alloc::{AllocError, Global};
 use rattle_std::{String, Vec, format};
 use script_runner::{RunFault, run};
 
+mod alone;
 mod application;
 mod asked;
 mod calls;
