@@ -253,7 +253,7 @@ cyclic_not : (frame_id : ℕ) → is_cyclic frame_id ≡ true → (frame_id ≡ 
 cyclic_not frame_id cyclic (inl identify) = not_true (subst (λ (id : ℕ). is_cyclic id ≡ true) identify cyclic)
 cyclic_not frame_id cyclic (inr getting) = not_true (subst (λ (id : ℕ). is_cyclic id ≡ true) getting cyclic)
 
-id_of : Content → ℕ
+abbrev id_of : Content → ℕ
 id_of (RealTime frame_id body) = frame_id
 id_of (ArpPacket packet) = 0
 id_of (UdpDatagram from to body) = 0
