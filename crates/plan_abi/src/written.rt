@@ -105,8 +105,8 @@ pub fn put(written: &mut WrittenPlan, plan: &Plan, station_type: &[u8])
 
 // What a controller says of itself to tools, if it says anything.
 fn identity_in(identity: Option<&ControllerIdentity>) -> WrittenIdentity
-    ensures laid { result ≡ written_identity (option_map (λ own. own.now) identity) }
-    ensures whole { own_of result ≡ option_map (λ own. own.now) identity }
+    ensures laid { result ≡ written_identity (option_map (λ own. own.now) identity.entry) }
+    ensures whole { own_of result ≡ option_map (λ own. own.now) identity.entry }
 {
     match identity {
         Some(own) => told_in(own),
