@@ -1,14 +1,17 @@
 -- Events at either end, one after the other.
 use Rattle.std.proofs.Common.{◌≡◌, ℕ, ◌+◌, ◌-◌, ◌<◌, ◌≤◌, List, [], ◌∷◌, ◌++◌, zero, suc, replicate, flat_map, length, drop, append_assoc, append-nil, arith, refl, ap, subst, sym, ◌∙◌, Option, Some, None, Result, Ok, Err, OnOk}
+use Rattle.std.specs.List.{cons_option}
 use Rattle.std.proofs.lemmas.Grind.{flat_map-append}
 use Rattle.std.proofs.lemmas.List.{drop_all}
 use Rattle.arrayvec.specs.ArrayVec.{ArrayVec}
 use Rattle.device_frames.specs.declared.event.Event.{Event}
+use Rattle.controller_dcp.specs.Station.{answer_to}
 use Rattle.controller_core.specs.declared.stored.event.Event.{Event as ControllerEvent}
+use Rattle.controller_core.specs.declared.stored.event.Event.TheVariants as heard
 use Rattle.controller_core.specs.Machine.{Stepped as ControllerRun, step_of as controller_step}
 use Rattle.controller_core.specs.stored.State.{Controlling}
 use Rattle.script_lines.specs.Reports.{told_line}
-use Rattle.script_session.specs.Ends.{Station, Running, station_step, Other, DeviceRun, IsRun, alarms_in, controller_run, device_run, frames_for_device, kept, news_of, octets_of, printed_for, with_sent}
+use Rattle.script_session.specs.Ends.{Station, Running, station_step, Other, DeviceRun, IsRun, alarms_in, answering_step, controller_run, device_run, frames_for_device, kept, news_of, octets_of, printed_for, with_sent}
 use Rattle.script_session.specs.Power.{Runs}
 use Rattle.script_session.specs.Session.{IsHandedTo, IsRunOf, IsTurned}
 
@@ -240,6 +243,17 @@ heard_all whole left now before waiting none hearing = (
   sym (hearing.controller ∙ ap (λ events. (controller_run now events).controller) none),
   sym (hearing.frames ∙ ap (λ events. octets_of waiting ++ (controller_run now events).frames) none ∙ append-nil (octets_of waiting)),
 )
+
+-- A step at a frame, and then the answer to a tool: what both send waits, in this order.
+pub run_answering : (old now : Controlling) (octets : ArrayVec ℕ) (before between after : List (ArrayVec ℕ)) → IsRun (controller_step old (heard.Frame octets)) now before between
+    → octets_of after ≡ octets_of between ++ cons_option (answer_to now.setup.plan octets.items) [] → IsRun (answering_step old octets) now before after
+run_answering old now octets before between after run answers =
+    let step = controller_step old (heard.Frame octets) in (
+      run.0,
+      answers ∙ ap (λ (frames : List (List ℕ)). frames ++ cons_option (answer_to now.setup.plan octets.items) []) run.1
+          ∙ append_assoc (octets_of before) step.frames (cons_option (answer_to now.setup.plan octets.items) [])
+          ∙ ap (λ (c : Controlling). octets_of before ++ (step.frames ++ cons_option (answer_to c.setup.plan octets.items) [])) run.0,
+    )
 
 -- Between two events: the lines so far, with those of the alarms in the remaining events, are the whole.
 pub record IsTelling (whole : List ℕ) (left : List ControllerEvent) (now : Controlling) (lines : List ℕ) : Type 0 where

@@ -520,6 +520,7 @@ fn listen(
 }
 
 /// Hands a frame to the controller, appends the line of the alarm that it accepts in it, if it does, and its answer to a tool.
+#[tactic(auto, using(crate::proofs::Ticking::run_answering))]
 fn converse(
     controller: &mut Controller,
     octets: &[u8],
@@ -535,7 +536,8 @@ fn converse(
 {
     let event = Event::Frame(copied(octets));
     listen(controller, &event, outbox, to_device, told)?;
-    answer(controller, octets, outbox, to_device)
+    answer(controller, octets, outbox, to_device)?;
+    Ok(())
 }
 
 /// Appends the answer of the controller to a tool, if these octets are a request of one.
