@@ -162,10 +162,11 @@ impl OtherEnd {
         ensures { OnOk result ((self.new ≡ let_out self.old)
             × (text.new.items ≡ text.old.items ++ out_from self.old.is_alone self.old.to_device)) }
     {
-        if self.is_alone {
-            render::outs(self.to_device.as_slice(), text)?;
-            self.to_device.clear();
+        if !self.is_alone {
+            return Ok(());
         }
+        render::outs(self.to_device.as_slice(), text)?;
+        self.to_device.clear();
         Ok(())
     }
 
