@@ -58,6 +58,8 @@ pub use self::asked_records::{AskedRecord, AskedRecords, NamedRecords, RecordNam
 #[doc(inline)]
 pub use self::device_core::{Device, Event, Local, Note, Octets, Sink};
 #[doc(inline)]
+pub use self::device_station::{IoStation, StationOutbox};
+#[doc(inline)]
 pub use self::diagnosis::Diagnosis;
 #[doc(inline)]
 pub use self::flash_model::{Flash, FlashFault, MemoryFlash, Order, Sector};
@@ -75,8 +77,6 @@ pub use self::records::TakenRecord;
 pub use self::relations::{DeviceOptions, Phase, ProviderStatus, ReceivedValue};
 #[doc(inline)]
 pub use self::settings_journal::BootFault;
-#[doc(inline)]
-pub use self::station::{IoStation, StationOutbox};
 
 /// A controller of one device: it looks for the station, starts it as a plan says, exchanges data with it, and reports its alarms.
 ///

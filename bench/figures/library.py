@@ -41,9 +41,10 @@ KINDS = {
     "values": ("a millisecond with an output read and an input set", (32, 1), 700),
 }
 
-# Above these a turn takes more than it did. A body that always answers that something may be due (`Port::is_quiet`, `skip`, `is_calm`,
-# `is_counted`), or that lets units pass one by one, keeps each clause and costs only time. Each of these passes one of these numbers.
-MOST_TODAY = {"unit": 75, "alone": 60, "addressed": 60, "leap": 75, "second": 400, "cyclic": 195, "sent": 233}
+# Above these a turn takes more than it did. A body that lets no units pass by what is known of an exchange (`DevicePort::glide`, `send`, `is_steady`, `sends`),
+# or that always looks for a place or a mark (`Plugs::is_whole`, `DataExchange::may_await`), keeps each clause and costs only time. Each of these passes one
+# of these numbers.
+MOST_TODAY = {"unit": 46, "alone": 39, "addressed": 39, "leap": 46, "second": 420, "cyclic": 145, "sent": 189, "cycle": 380, "values": 592}
 # Services that read a dropped frame more than once pass one of these, and so do those that read what the device answered.
 MOST_TODAY |= {"foreign": 1_450, "foreign_long": 3_600, "foreign_mac": 2_050, "echo": 1_450, "lookup": 4_100, "identify": 780, "read": 3_450}
 

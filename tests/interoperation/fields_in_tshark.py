@@ -2,8 +2,9 @@
 """Reads records and answers of the device with tshark, field by field, and compares what it reads with what is kept.
 
 The records are those of tests/interoperation/records.txt, each in the answer to a Read. Beside them are an acknowledgement of a fragment (fack), nocall, the
-rejects, and the answers of the endpoint mapper, with its entry and without one, as they are in tests/interoperation/answers.txt. The tests of the repository compare the same octets
-with what the device writes. tests/interoperation/fields.txt has each field that tshark finds in them, with its name and its value.
+rejects, and the answers of the endpoint mapper, with its entry and without one, as they are in tests/interoperation/answers.txt; and the blocks, alarms and
+announcements of tests/interoperation/named.txt, in which each field has a value of its own. The tests of the repository compare the same octets
+with what both ends write. tests/interoperation/fields.txt has each field that tshark finds in them, with its name and its value.
 Needs Debian's package `tshark`. Its status is 1 where a field has another name or value, or a frame is dissected as malformed.
 Use: tests/interoperation/fields_in_tshark.py [--write]
 """
@@ -14,11 +15,14 @@ import sys
 import tempfile
 import xml.etree.ElementTree
 
-from blocks_in_tshark import HERE, answer_help, need, read_records, record_frame, refuse
+from blocks_in_tshark import HERE, answer_help, frame_of, need, read_records, record_frame, refuse
 
 # What tshark computes of a frame, and what the frame around a record says.
 LEFT_OUT = ("dcerpc.time", "dcerpc.request_in", "dcerpc.response_in")
-PROTOCOLS = ("pn_io", "pn_io_device", "epm", "dcerpc")
+PROTOCOLS = ("pn_io", "pn_io_device", "epm", "dcerpc", "lldp")
+# The indices of records in named.txt that have no block of the codec, by BlockType; and what follows the header of a block that counts it.
+INDICES = {0x0013: 0xF000, 0x0015: 0x8028, 0x0016: 0x8029}
+FOLLOWS = {0x0008: bytes(6)}
 
 
 def answers():
@@ -27,6 +31,27 @@ def answers():
         if not line.startswith("#"):
             name, octets = line.split()
             yield name, bytes.fromhex(octets)
+
+
+def named_frame(number, name, octets):
+    """A frame that carries this line of named.txt, and where its octets begin."""
+    if name.startswith("ANNOUNCEMENT"):
+        return octets, 14
+    head = bytes.fromhex("0200000000010200000000028892")
+    if octets[4] in (0x11, 0x12, 0x13) and octets[:2] == b"\0\3":
+        is_high = name in ("PROCESS", "ALARM_ACK", "ACK", "NACK")
+        return head + (b"\xfc\x01" if is_high else b"\xfe\x01") + octets + bytes(max(0, 44 - len(octets))), 16
+    kind = int.from_bytes(octets[:2], "big")
+    frame = record_frame(number, INDICES[kind], octets) if kind in INDICES else frame_of(number, kind, octets, FOLLOWS)
+    return frame, frame.index(octets)
+
+
+def named():
+    """The name of each line of named.txt, a frame with its octets, and where they begin."""
+    for number, line in enumerate((HERE / "named.txt").read_text().splitlines()):
+        if not line.startswith("#"):
+            name, octets = line.split()
+            yield (f"named {name}", *named_frame(number, name, bytes.fromhex(octets)))
 
 
 def datagram(body):
@@ -67,8 +92,11 @@ def table():
     records, others = list(read_records()), list(answers())
     frames = [record_frame(number, index, octets) for number, (_, index, octets) in enumerate(records)] + [datagram(octets) for _, octets in others]
     starts = [len(frame) - len(octets) for frame, (_, _, octets) in zip(frames, records)] + [42 for _ in others]
+    rows = list(named())
+    frames += [frame for _, frame, _ in rows]
+    starts += [start for _, _, start in rows]
     lines, is_malformed = [], False
-    for name, frame, start, tree in zip([row[0] for row in records + others], frames, starts, dissected(frames)):
+    for name, frame, start, tree in zip([row[0] for row in records + others + rows], frames, starts, dissected(frames)):
         lines += [f"# {name}", *fields_of(tree, start)]
         is_malformed |= any(protocol.get("name") == "_ws.malformed" for protocol in tree.iter())
     return lines, is_malformed

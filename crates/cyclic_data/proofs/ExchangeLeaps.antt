@@ -1,15 +1,18 @@
 -- Several units of time at once, before the next one with which something is due of one end.
-use Rattle.std.proofs.Common.{◌≡◌, ◌+◌, ◌-◌, ◌<◌, ◌==◌, ◌&&◌, ℕ, zero, suc, Bool, true, false, refl, sym, ap, subst, ◌∙◌, arith, if◌then◌else◌}
+use Rattle.std.proofs.Common.{◌≡◌, ◌+◌, ◌-◌, ◌<◌, ◌≤◌, ◌==◌, ◌&&◌, ℕ, zero, suc, Bool, true, false, Some, None, refl, sym, ap, subst, ◌∙◌, arith, if◌then◌else◌}
 use Rattle.std.specs.Prelude.{min, max}
 use Rattle.std.proofs.lemmas.Bool.{ne_eqb}
+use Rattle.std.proofs.lemmas.Bool.Decides.{nat_tests}
 use Rattle.cyclic_data.specs.Leaps.{frame_due_in, held_for, over_in, units_later}
 use Rattle.cyclic_data.specs.Timing.{Hearing, Sending, held_on, is_due, unit_later}
+use Rattle.pn_alarms.specs.declared.abort.Abort.TheVariants.{DataHold}
+use Rattle.pn_alarms.specs.declared.repeats.Due.TheVariants.{Nothing}
 use Rattle.pn_alarms.specs.Leaps.{after, never}
 use Rattle.cyclic_data.specs.exchange.Cyclic.{Cyclic}
-use Rattle.cyclic_data.specs.exchange.Leaps.{IsQuiet, IsQuietFor, cyclic_due_in}
-use Rattle.cyclic_data.specs.exchange.Units.{cyclic_later}
+use Rattle.cyclic_data.specs.exchange.Leaps.{IsQuiet, IsQuietFor, cyclic_due_in, frame_alone, silent_in}
+use Rattle.cyclic_data.specs.exchange.Units.{Brought, cyclic_later, tick_by, tick_of}
 
-below_both : (number one other : ℕ) → number < min one other → (number < one) × (number < other)
+pub below_both : (number one other : ℕ) → number < min one other → (number < one) × (number < other)
 below_both number one other below = (omega (arith, below), omega (arith, below))
 
 -- ---- frames
@@ -93,3 +96,53 @@ quiet_at cyclic units before =
 pub quiet_for : (cyclic : Cyclic) (units : ℕ) → units < cyclic_due_in cyclic → IsQuietFor units cyclic
 quiet_for cyclic units below before earlier =
     subst IsQuiet (sym (later_after cyclic before (omega (arith, below, earlier)))) (quiet_at cyclic before (omega (arith, below, earlier)))
+
+-- What is due comes nearer by these units, and the end of the data hold time by no more.
+pub frame_nearer : (sending : Sending) (units : ℕ) → units < frame_due_in sending → frame_due_in sending ≡ frame_due_in (units_later units sending) + units
+frame_nearer sending units below = omega (arith, below)
+
+pub silent_later : (begun : Bool) (hearing : Hearing) (units : ℕ)
+    → (if begun then over_in hearing else never) ≤ (if begun then over_in (hearing_by begun units hearing) else never) + units
+silent_later true hearing units = omega arith
+silent_later false hearing units = omega arith
+
+-- ---- up to the next unit with which a frame is due
+
+frame_reached : (sending : Sending) (units : ℕ) → suc units ≡ frame_due_in sending → is_due (units_later units sending) ≡ true
+frame_reached sending units due =
+    let reached : sending.elapsed + units + 1 ≡ sending.interval = omega (arith, due) in
+    grind (arith, nat_tests)
+
+frame_sent : (sending : Sending) (units : ℕ) → suc units ≡ frame_due_in sending → unit_later (units_later units sending) ≡ with_elapsed sending 0
+frame_sent sending units due = ap (λ (b : Bool). with_elapsed sending (if b then 0 else sending.elapsed + units + 1)) (frame_reached sending units due)
+
+-- The end after the units up to the next frame: its interval begins again.
+abbrev sent_by : ℕ → Cyclic → Cyclic
+sent_by units cyclic = with_timers cyclic (with_elapsed cyclic.sending 0) (hearing_by cyclic.begun units cyclic.hearing)
+
+sent_next : (cyclic : Cyclic) (units : ℕ) → suc units ≡ frame_due_in cyclic.sending → suc units < silent_in cyclic → after cyclic_later (suc units) cyclic ≡ sent_by (suc units) cyclic
+sent_next cyclic units due held =
+    ap cyclic_later (later_after cyclic units (omega (arith, due, held)))
+    ∙ (ap (λ (s : Sending). with_timers cyclic s (if cyclic.begun then held_on (hearing_by cyclic.begun units cyclic.hearing) else hearing_by cyclic.begun units cyclic.hearing))
+    (frame_sent cyclic.sending units due)
+    ∙ ap (with_timers cyclic (with_elapsed cyclic.sending 0)) (hearing_next cyclic.begun cyclic.hearing units held))
+
+pub sent_after : (cyclic : Cyclic) (units : ℕ) → 0 < units → units ≡ frame_due_in cyclic.sending → units < silent_in cyclic → after cyclic_later units cyclic ≡ sent_by units cyclic
+sent_after cyclic zero some due held = absurd (omega (arith, some))
+sent_after cyclic (suc units) some due held = sent_next cyclic units due held
+
+last_next : (cyclic : Cyclic) (units : ℕ) → suc units ≡ frame_due_in cyclic.sending → suc units < silent_in cyclic → tick_of (after cyclic_later units cyclic) Nothing ≡ frame_alone
+last_next cyclic units due held =
+    let later = later_by units cyclic in
+    ap (λ (c : Cyclic). tick_of c Nothing) (later_after cyclic units (omega (arith, due, held)))
+    ∙ (ap (λ (b : Bool). tick_by later Nothing (if b then Some DataHold else None)) (silent_nothing cyclic.begun cyclic.hearing units held)
+    ∙ ap (λ (b : Bool). let brought : Brought = record { ending = None; is_alarm = false; is_cyclic = b } in brought) (frame_reached cyclic.sending units due))
+
+pub last_sends : (cyclic : Cyclic) (units : ℕ) → 0 < units → units ≡ frame_due_in cyclic.sending → units < silent_in cyclic → tick_of (after cyclic_later (units - 1) cyclic) Nothing ≡ frame_alone
+last_sends cyclic zero some due held = absurd (omega (arith, some))
+last_sends cyclic (suc units) some due held =
+    let one : suc units - 1 ≡ units = omega arith in
+    rw one (last_next cyclic units due held)
+
+pub quiet_before : (cyclic : Cyclic) (units : ℕ) → 0 < units → units ≡ frame_due_in cyclic.sending → units < silent_in cyclic → IsQuietFor (units - 1) cyclic
+quiet_before cyclic units some due held = quiet_for cyclic (units - 1) (omega (arith, some, due, held))

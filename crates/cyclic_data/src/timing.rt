@@ -69,6 +69,15 @@ impl Provider {
         self.interval - self.elapsed
     }
 
+    /// A frame was due: the next interval begins.
+    #[inline(always)]
+    pub fn restart(&mut self)
+        ensures state { self.new ≡ record self.old { elapsed = 0 } }
+        ensures some { 0 < frame_due_in self.old }
+    {
+        self.elapsed = 0;
+    }
+
     /// Lets several units pass at once. No frame may be due with any of them.
     pub fn pass(&mut self, units: u32)
         requires { units < frame_due_in self.old }

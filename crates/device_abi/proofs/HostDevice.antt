@@ -15,7 +15,7 @@ use Rattle.settings_journal.specs.Image.{BootsTo, LeftByDevice}
 use Rattle.settings_journal.specs.settings_store.Legal.{made_of}
 use Rattle.settings_journal.specs.settings_store.Machine.{Accepted, Carried, Pass, carried_one, carried}
 use Rattle.settings_journal.specs.settings_store.State.{Values}
-use Rattle.device_abi.specs.recorded.Record.{image_of}
+use Rattle.device_station.specs.recorded.Record.{image_of}
 use Rattle.device_frames.specs.declared.event.Event.{Event}
 use Rattle.device_frames.specs.declared.note.Note.{Note}
 use Rattle.device_frames.specs.Heard.{Heard, heard_of}
@@ -23,9 +23,9 @@ use Rattle.device_core.specs.Cycle.{started}
 use Rattle.device_core.specs.Handled.{Handled, handled}
 use Rattle.device_core.specs.Machine.{Ran, Stepped, handed, heard_step, items_in, handled_step, run_of, step_of, then_run}
 use Rattle.device_core.specs.State.{Live, Station}
-use Rattle.device_abi.specs.port.Host.{Begun, Carries, Keeps, Stores, after}
-use Rattle.device_abi.specs.port.State.{State, IsIdle}
-use Rattle.device_abi.specs.port.Steps.{Takes}
+use Rattle.device_abi.specs.Host.{Begun, Carries, Keeps, Stores, after}
+use Rattle.device_station.specs.port.State.{State, IsIdle}
+use Rattle.device_station.specs.port.Steps.{Takes}
 
 -- ---- steps after others
 

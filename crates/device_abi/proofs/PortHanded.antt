@@ -8,12 +8,12 @@ use Rattle.device_frames.specs.declared.event.Event.{Event}
 use Rattle.device_frames.specs.declared.event.Event.TheVariants.{Tick}
 use Rattle.device_frames.specs.declared.note.Note.{Note}
 use Rattle.device_frames.specs.declared.note.Note.TheVariants.{Done}
-use Rattle.device_abi.specs.declared.port.device.Passed.{Passed}
-use Rattle.device_abi.specs.declared.port.refusal.Refusal.{Refusal}
-use Rattle.device_abi.specs.declared.port.refusal.Refusal.TheVariants.{HasWork}
-use Rattle.device_abi.specs.port.Host.{HandsIn}
-use Rattle.device_abi.specs.port.Served.{Served, barred_both}
-use Rattle.device_abi.specs.port.ServedSteps.{AnswersBoth, HearsBoth, PassesBothOrNot, TakesBoth, TicksBoth}
+use Rattle.device_station.specs.declared.port.device.Passed.{Passed}
+use Rattle.device_station.specs.declared.port.refusal.Refusal.{Refusal}
+use Rattle.device_station.specs.declared.port.refusal.Refusal.TheVariants.{HasWork}
+use Rattle.device_abi.specs.Host.{HandsIn}
+use Rattle.device_station.specs.port.Served.{Served, barred_both}
+use Rattle.device_station.specs.port.ServedSteps.{AnswersBoth, HearsBoth, PassesBothOrNot, TakesBoth, TicksBoth}
 
 pub answered_in : (old : Served) (event : Event) (result : Result Note Refusal) (new : Served) → AnswersBoth old event result new → HandsIn old event new
 answered_in old event (Ok note) new is = inl (is.0, (note, is.1))

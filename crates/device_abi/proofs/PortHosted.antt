@@ -8,29 +8,28 @@ use Rattle.flash_model.specs.Calls.{Call}
 use Rattle.flash_model.specs.Image.{Image, IsImage}
 use Rattle.settings_journal.specs.Cut.{CutOff, all_carried_out, carried_out}
 use Rattle.settings_journal.specs.Image.{LeftByDevice, StartsWith}
-use Rattle.device_abi.specs.recorded.Record.{image_of}
+use Rattle.device_station.specs.recorded.Record.{image_of}
 use Rattle.device_frames.specs.declared.event.Event.{Event}
 use Rattle.device_frames.specs.declared.note.Note.{Note}
 use Rattle.device_core.specs.Cycle.{started}
 use Rattle.device_core.specs.Machine.{run_of, step_of}
 use Rattle.device_core.specs.State.{Live, Station}
-use Rattle.station.specs.Beside.{joined_beside}
-use Rattle.station.specs.Leaps.{Leapt, told_if}
-use Rattle.station.specs.Runs.{call_of}
-use Rattle.station.specs.Serving.{Serving, news_in}
-use Rattle.station.specs.State.{in_order, of_device}
-use Rattle.device_abi.specs.port.Host.{Begun, Ends, GoesOn, HandsIn, Hosted, IsFresh, IsOpen, Keeps, Performs, Stands, Stores, Turn, UnderWay, after, begun_by, events_of, frames_by, heard, hosted, hosted_from, then_hosted, turn_of}
-use Rattle.device_abi.specs.port.Served.{Served, IsFetched, advanced_both, advanced_from, barred_both, frames_of}
-use Rattle.device_abi.specs.port.ServedSteps.{GivesAny, GivesPort, IsBeside, StepsBoth, TakesBoth, TellsIf, TellsOf}
-use Rattle.device_abi.specs.port.State.{State, advanced_by, barred_by, has_work}
-use Rattle.device_abi.specs.port.Steps.{Takes}
-use Rattle.device_abi.specs.declared.port.host.Operation.{Operation}
-use Rattle.device_abi.specs.declared.port.host.Operation.TheVariants as operation
-use Rattle.device_abi.specs.declared.port.stage.Stage.TheVariants.{Booted}
+use Rattle.device_station.specs.Beside.{joined_beside}
+use Rattle.device_station.specs.Leaps.{Leapt, told_if}
+use Rattle.device_station.specs.Runs.{call_of}
+use Rattle.device_station.specs.Serving.{Serving, news_in}
+use Rattle.device_station.specs.State.{in_order, of_device}
+use Rattle.device_abi.specs.Host.{Begun, Ends, GoesOn, HandsIn, Hosted, IsFresh, IsOpen, Keeps, Performs, Stands, Stores, Turn, UnderWay, after, begun_by, events_of, frames_by, heard, hosted, hosted_from, then_hosted, turn_of}
+use Rattle.device_station.specs.port.Served.{Served, IsFetched, advanced_both, advanced_from, barred_both, frames_of}
+use Rattle.device_station.specs.port.ServedSteps.{GivesAny, GivesPort, IsBeside, StepsBoth, TakesBoth, TellsIf, TellsOf}
+use Rattle.device_station.specs.port.State.{State, advanced_by, barred_by, has_work}
+use Rattle.device_station.specs.port.Steps.{Takes}
+use Rattle.device_abi.specs.declared.host.Operation.{Operation}
+use Rattle.device_abi.specs.declared.host.Operation.TheVariants as operation
+use Rattle.device_station.specs.declared.port.stage.Stage.TheVariants.{Booted}
 use Rattle.device_abi.proofs.HostDevice.{Goes, goes_none, goes_on, live_of, not_begun, run_append, whole}
 use Rattle.device_abi.proofs.HostDevice.{frames_of as frames_ran}
-use Rattle.device_abi.proofs.PortStages.{is_free}
-use Rattle.device_abi.proofs.ServedBarring.{free_fetched}
+use Rattle.device_abi.proofs.HostFree.{free_fetched, free_idle}
 
 -- ---- one event after others
 
@@ -290,7 +289,7 @@ module _ (begun : Begun) (told : List Event) (port : Served) (chip : Image) (k :
   given_goes : (joined : Option Event) (heard : List Event) (middle new : State) → Goes begun told heard middle chip → GivesPort joined middle new → Goes begun told (heard ++ call_of joined) new chip
   given_goes None heard middle new goes gives =
       subst (λ h. Goes begun told h new chip) (sym (append-nil heard)) (subst (λ p. Goes begun told heard p chip) (sym gives) goes)
-  given_goes (Some call) heard middle new goes gives = goes_on begun told heard middle chip goes (let free = is_free middle gives.0 in (free.calls, free.frames)) call gives.1 new gives.2
+  given_goes (Some call) heard middle new goes gives = goes_on begun told heard middle chip goes (free_idle middle gives.0) call gives.1 new gives.2
 
   -- The step of an event after that, and the services beside it.
   event_goes : (state : Serving) (ready : Leapt) (news : List Event) (event : Event) (note : Note) (between new : Served) → Goes begun told news between.port chip → between.services ≡ Some ready.services

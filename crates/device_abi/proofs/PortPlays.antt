@@ -9,16 +9,16 @@ use Rattle.settings_journal.specs.Cut.{all_carried_out, carried_out}
 use Rattle.settings_journal.specs.settings_store.State.{Values}
 use Rattle.device_frames.specs.declared.event.Event.{Event}
 use Rattle.device_frames.specs.declared.note.Note.{Note}
-use Rattle.station.specs.Beside.{joined_beside}
-use Rattle.station.specs.Serving.{Serving}
-use Rattle.device_abi.specs.declared.port.host.Operation.{Operation}
-use Rattle.device_abi.specs.declared.port.host.Operation.TheVariants as operation
-use Rattle.device_abi.specs.declared.port.stage.Stage.TheVariants.{Booted}
-use Rattle.device_abi.specs.port.Host.{HandsIn, Performs}
-use Rattle.device_abi.specs.port.Plays.{Plays, Point, emptied, point, settled, worked, worked_by}
-use Rattle.device_abi.specs.port.Served.{Served, IsFetched, advanced_both, advanced_from, frames_of}
-use Rattle.device_abi.specs.port.ServedSteps.{GivesAny, GivesPort, TakesBoth}
-use Rattle.device_abi.specs.port.State.{State, advanced_by, barred_by}
+use Rattle.device_station.specs.Beside.{joined_beside}
+use Rattle.device_station.specs.Serving.{Serving}
+use Rattle.device_abi.specs.declared.host.Operation.{Operation}
+use Rattle.device_abi.specs.declared.host.Operation.TheVariants as operation
+use Rattle.device_station.specs.declared.port.stage.Stage.TheVariants.{Booted}
+use Rattle.device_abi.specs.Host.{HandsIn, Performs}
+use Rattle.device_abi.specs.Plays.{Plays, Point, emptied, point, settled, worked, worked_by}
+use Rattle.device_station.specs.port.Served.{Served, IsFetched, advanced_both, advanced_from, frames_of}
+use Rattle.device_station.specs.port.ServedSteps.{GivesAny, GivesPort, TakesBoth}
+use Rattle.device_station.specs.port.State.{State, advanced_by, barred_by}
 use Rattle.device_abi.proofs.PortHosted.{fetched_frames}
 
 points : (port port_is : Served) (chip chip_is : Image) (sent sent_is : List (List ℕ)) → port ≡ port_is → chip ≡ chip_is → sent ≡ sent_is → point port chip sent ≡ point port_is chip_is sent_is

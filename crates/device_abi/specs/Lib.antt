@@ -1,3 +1,8 @@
-pub mod recorded
-pub mod recording
-pub mod port
+pub mod Confirmed
+pub mod Made
+pub mod Reasons
+pub mod Serves
+pub mod Stations
+pub mod Submodules
+pub mod Host
+pub mod Plays

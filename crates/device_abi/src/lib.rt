@@ -1,13 +1,24 @@
-//! The device as a host in C drives it: events go in, and work comes out, flash calls first and then frames.
+//! A station as a host in C drives it: the operations of the library for C, and the law for hosts.
 //!
-//! `recorded` is a flash in memory that records its calls, `recording` a step of the device over it, `port` the device with the
-//! services beside it and the work of its last step, and the law for hosts.
+//! `serving` carries out an operation, `modules` those of pulls and plugs, `asking` those of
+//! records that the application answers, `reason` says why the device refused what its
+//! application said, `confirmation` what became of an open alarm, `plugged` and `c_station` are
+//! what a host writes of a station, `submodule` what it plugs. `host` is the reference host, with the law for hosts.
 #![tactic(auto)]
 
-mod port;
-mod recorded;
-mod recording;
+mod asking;
+mod c_station;
+mod confirmation;
+mod host;
+mod modules;
+mod operation;
+mod plugged;
+mod reason;
+mod serving;
+mod submodule;
 
-pub use port::{Operation, Passed, Port, Refusal, SECTOR_SIZE, Stage, Work, play};
-pub use recorded::{MOST_BYTES, MOST_CALLS, Recorded, RecordedFlash};
-pub use recording::{leap, skip, step, step_cyclic, step_input, unit};
+pub use c_station::{Record, Station, judge, port_of};
+pub use confirmation::Confirmation;
+pub use host::{Operation, play};
+pub use reason::Reason;
+pub use serving::{hand_out, serve};

@@ -10,6 +10,7 @@ use Rattle.rpc_core.specs.Cache.{Kept}
 use Rattle.asked_records.specs.Asked.{AskedState, NeverOver, is_over, question_in, ticked as asked_ticked}
 use Rattle.asked_records.specs.declared.question.Question.{Question}
 use Rattle.device_records.specs.declared.log_data.entry.LogEntry.{LogEntry}
+use Rattle.relations.specs.declared.farewell.Farewell.{Farewell}
 use Rattle.relations.specs.Leaps.{NothingDueFor}
 use Rattle.relations.specs.Phases.{passing, updated}
 use Rattle.relations.specs.RelationState.{RelationState}
@@ -59,7 +60,7 @@ tick_live : (station : Station) (live : Live) → (step_of [] station live Tick)
 unfolding heard_of heard_step handled_step
 tick_live station live = refl
 
-tick_frames : (station : Station) (live : Live) → (step_of [] station live Tick).frames ≡ map (bytes_of station.identity) (end_of station live (ticked station live)).sent
+pub tick_frames : (station : Station) (live : Live) → (step_of [] station live Tick).frames ≡ map (bytes_of station.identity) (end_of station live (ticked station live)).sent
 unfolding heard_of heard_step handled_step
 tick_frames station live = refl
 
@@ -91,25 +92,25 @@ none_sent station live none going =
 
 -- ---- units with which nothing is due
 
-abbrev with_counts : Rest → ℕ → Option RelationState → ℕ → AskedState → Rest
+abbrev pub with_counts : Rest → ℕ → Option RelationState → ℕ → AskedState → Rest
 with_counts rest lamp link units asked = record rest { lamp = lamp; link = link; units = units; asked = asked }
 
-abbrev rest_later : ℕ → Rest → Rest
+abbrev pub rest_later : ℕ → Rest → Rest
 rest_later units rest = with_counts rest (rest.lamp - units) (units_over units rest.link) ((rest.units + units) % 18446744073709551616) (after asked_ticked units rest.asked)
 
-abbrev live_later : ℕ → Live → Live
+abbrev pub live_later : ℕ → Live → Live
 live_later units live = record { values = live.values; rest = rest_later units live.rest }
 
-abbrev with_lamp_and_units : Live → ℕ → Option RelationState → ℕ → AskedState → Live
+abbrev pub with_lamp_and_units : Live → ℕ → Option RelationState → ℕ → AskedState → Live
 with_lamp_and_units live lamp link units asked = record { values = live.values; rest = with_counts live.rest lamp link units asked }
 
-counter_next : (counter units : ℕ) → ((counter + units) % 18446744073709551616 + 1) % 18446744073709551616 ≡ (counter + suc units) % 18446744073709551616
+pub counter_next : (counter units : ℕ) → ((counter + units) % 18446744073709551616 + 1) % 18446744073709551616 ≡ (counter + suc units) % 18446744073709551616
 counter_next counter units =
     let one : counter + units + 1 ≡ counter + suc units = omega arith in
     mod-add-mod (counter + units) 18446744073709551616 1 ∙ ap (λ (n : ℕ). n % 18446744073709551616) one
 
--- The rest after a unit with which nothing is due.
-tick_next : (station : Station) (live : Live) → due_of live.rest.link ≡ nothing → is_over live.rest.asked ≡ false
+-- The rest after a unit with which the relation does not end.
+tick_next : (station : Station) (live : Live) → (due_of live.rest.link).farewell ≡ None → is_over live.rest.asked ≡ false
     → (step_of [] station live Tick).live
     ≡ with_lamp_and_units live (live.rest.lamp - 1) (updated (passing live.rest.link) live.rest.link) (units_after 1 live.rest.units) (asked_ticked live.rest.asked)
 tick_next station live none going =
@@ -119,12 +120,12 @@ tick_next station live none going =
     let made : List LogEntry → AskedState → List Kept → Live = λ log asked calls. record { values = live.values; rest = record (with_counts live.rest (live.rest.lamp - 1) link one asked) { log = log; calls = calls } } in
     let kept = late_calls station.options station.identity address in
     tick_live station live
-    ∙ (ap (λ (d : Due). made (err_log d.farewell one live.rest.log) (asked_later (length (unit_sent live)) (left_asked (ended_by d.farewell) live.rest.asked))
-    (kept (late_in (length (unit_sent live)) (left_asked (ended_by d.farewell) live.rest.asked)) live.rest.calls)) none
+    ∙ (ap (λ (f : Option Farewell). made (err_log f one live.rest.log) (asked_later (length (unit_sent live)) (left_asked (ended_by f) live.rest.asked))
+    (kept (late_in (length (unit_sent live)) (left_asked (ended_by f) live.rest.asked)) live.rest.calls)) none
     ∙ (ap (λ (a : AskedState). made live.rest.log a (kept (late_in (length (unit_sent live)) live.rest.asked) live.rest.calls)) (waits_on (length (unit_sent live)) live.rest.asked going)
     ∙ ap (λ (q : Option Question). made live.rest.log (asked_ticked live.rest.asked) (kept q live.rest.calls)) (none_late (length (unit_sent live)) live.rest.asked going)))
 
-later_next : (station : Station) (live : Live) (units : ℕ) → due_of (units_over units live.rest.link) ≡ nothing → is_over (after asked_ticked units live.rest.asked) ≡ false
+pub later_next : (station : Station) (live : Live) (units : ℕ) → (due_of (units_over units live.rest.link)).farewell ≡ None → is_over (after asked_ticked units live.rest.asked) ≡ false
     → (step_of [] station (live_later units live) Tick).live ≡ live_later (suc units) live
 later_next station live units none going =
     let lamp : live.rest.lamp - units - 1 ≡ live.rest.lamp - suc units = omega arith in
@@ -142,10 +143,10 @@ later_none live fits =
     ap (λ (n : ℕ). with_lamp_and_units live n live.rest.link live.rest.units live.rest.asked) lamp
     ∙ ap (λ (n : ℕ). with_lamp_and_units live (live.rest.lamp - 0) live.rest.link n live.rest.asked) counter
 
-abbrev sent_with : Live → List (List ℕ) → Leapt
+abbrev pub sent_with : Live → List (List ℕ) → Leapt
 sent_with live frames = record { live = live; frames = frames }
 
-abbrev and_tick : Station → Leapt → Leapt
+abbrev pub and_tick : Station → Leapt → Leapt
 and_tick station before = and_then before (step_of [] station before.live Tick)
 
 pub ticks_later : (station : Station) (live : Live) (units : ℕ) → live.rest.units < 18446744073709551616 → NothingDueFor units live.rest.link → NeverOver units live.rest.asked → ticks_of units station live ≡ sent_with (live_later units live) []
@@ -153,7 +154,7 @@ ticks_later station live zero fits none going = ap (λ (l : Live). sent_with l [
 ticks_later station live (suc units) fits none going =
     let later = live_later units live in
     ap (and_tick station) (ticks_later station live units fits (λ before earlier. none before (omega (arith, earlier))) (λ before earlier. going before (omega (arith, earlier))))
-    ∙ (ap (λ (l : Live). sent_with l (step_of [] station later Tick).frames) (later_next station live units (none units (omega arith)) (going units (omega arith)))
+    ∙ (ap (λ (l : Live). sent_with l (step_of [] station later Tick).frames) (later_next station live units (ap (λ (d : Due). d.farewell) (none units (omega arith))) (going units (omega arith)))
     ∙ ap (sent_with (live_later (suc units) live)) (none_sent station later (none units (omega arith)) (going units (omega arith))))
 
 pub ticks_live : (station : Station) (live : Live) (units : ℕ) → live.rest.units < 18446744073709551616 → NothingDueFor units live.rest.link → NeverOver units live.rest.asked → (ticks_of units station live).live ≡ live_later units live

@@ -21,6 +21,7 @@ mod Counting
 mod Unnamed
 mod Changing
 pub mod Leaping
+mod SteadyUnits
 mod Logged
 mod Diagnosed
 pub mod OpenAlarm

@@ -11,5 +11,6 @@ pub mod Steps
 pub mod Local
 pub mod Cycle
 pub mod Leaps
+pub mod Steady
 pub mod Repeats
 pub mod OpenAlarm

@@ -39,15 +39,6 @@ impl<F: Flash<S>, const S: usize> Device<F, S> {
         self.tick(outbox)
     }
 
-    /// Lets one unit pass, and replaces the content of the outbox by the frames to be sent. It does what a Tick event does.
-    pub fn pass_unit(&mut self, outbox: &mut Outbox)
-        ensures device { self.new ≡ record self.old { live = (ticks_of 1 self.old.station self.old.live).live } }
-        ensures frames { boxed outbox.new ≡ (ticks_of 1 self.old.station self.old.live).frames }
-    {
-        outbox.clear(); // of what the event before sent
-        let _ = self.tick(outbox);
-    }
-
     /// Lets units pass with which nothing is sent, and nothing ends: fewer than `due` returns.
     pub fn pass(&mut self, units: u32)
         requires { units < live_due_in self.old.live }
@@ -64,7 +55,7 @@ impl<F: Flash<S>, const S: usize> Device<F, S> {
 }
 
 // The units since the start, some units later.
-fn units_later(units: u64, more: u32) -> u64
+pub(crate) fn units_later(units: u64, more: u32) -> u64
     ensures value { result ≡ units_after more units }
     ensures fits { units < 18446744073709551616 }
 {

@@ -17,6 +17,7 @@ mod run;
 mod several;
 mod sink;
 mod start;
+mod steady;
 mod step;
 
 pub use device::Device;

@@ -27,6 +27,8 @@ ghost use Rattle.rpc_core.specs.Call.{Asked as Called};
 ghost use Rattle.rpc_core.specs.Cache.{looked, again};
 ghost use Rattle.device_core.specs.Faults.{StepGoesOn};
 ghost use Rattle.device_core.specs.Leaps.{live_due_in};
+ghost use Rattle.device_core.specs.Steady.{IsSteadyAt};
+ghost use Rattle.relations.specs.declared.steady.Steady.{Steady};
 ghost use Rattle.device_core.specs.Steps.{Steps, Identifies, IsServed, IsAgain, IsExactStep, IsQuietStep, StaysReliable};
 ghost use Rattle.frame_codec.specs.Outbox.{boxed};
 
@@ -86,18 +88,20 @@ impl<F: Flash<S>, const S: usize> Device<F, S> {
         ensures quiet { IsQuietStep self.old (Application (Input slot subslot (record { items = value.now }))) result self.new }
         // It changes nothing that is due.
         ensures due { live_due_in self.new.live ≡ live_due_in self.old.live }
+        ensures steady { (steady : Steady) → IsSteadyAt steady self.old.live → IsSteadyAt steady self.new.live }
     {
         self.give(slot, subslot, value)
     }
 
     /// Takes a cyclic frame that the relation accepts, which is only read and not kept: it does what `step` does with the event of
     /// these octets, and sends nothing. Returns whether the octets are such a frame; if not, nothing changes.
-    #[inline(never)]
+    #[inline(always)]
     pub fn take_cyclic(&mut self, octets: &[u8]) -> bool
         ensures taken { result ≡ true → IsQuietStep self.old (Frame (record { items = octets.now })) Note.Done self.new }
         ensures left { result ≡ false → self.new ≡ self.old }
         // It only puts off what is due.
         ensures due { live_due_in self.old.live ≤ live_due_in self.new.live }
+        ensures steady { (steady : Steady) → IsSteadyAt steady self.old.live → IsSteadyAt steady self.new.live }
     {
         match real_time_in(octets) {
             Some(frame) => self.take_real_time(&frame),
@@ -113,6 +117,7 @@ impl<F: Flash<S>, const S: usize> Device<F, S> {
             result ≡ true → IsQuietStep self.old (Frame (record { items = octets })) Note.Done self.new }
         ensures left { result ≡ false → self.new ≡ self.old }
         ensures due { live_due_in self.old.live ≤ live_due_in self.new.live }
+        ensures steady { (steady : Steady) → IsSteadyAt steady self.old.live → IsSteadyAt steady self.new.live }
     {
         match kind_of(&self.identity, frame.destination, frame.frame_id) {
             RealTimeKind::Cyclic => {
@@ -411,7 +416,7 @@ impl<F: Flash<S>, const S: usize> Device<F, S> {
 
     // Only inputs are due.
     #[inline(always)]
-    fn send_inputs(&self, outbox: &mut Outbox) -> Note
+    pub(crate) fn send_inputs(&self, outbox: &mut Outbox) -> Note
         requires { outbox.old.items ≡ [] }
         ensures note { result ≡ Note.Done }
         ensures frames { boxed outbox.new
@@ -426,7 +431,7 @@ impl<F: Flash<S>, const S: usize> Device<F, S> {
 
     // The inputs of the exchange of the relation, and nothing else. The outbox is cleared once more, so that the
     // frame's place in it is known here.
-    #[inline(never)]
+    #[inline(always)]
     fn send_inputs_of(&self, exchange: &DataExchange, outbox: &mut Outbox) -> Note
         ensures note { result ≡ Note.Done }
         ensures frames { boxed outbox.new
@@ -480,6 +485,7 @@ impl<F: Flash<S>, const S: usize> Device<F, S> {
     fn hear_cyclic(&mut self, source: Mac, frame_id: u16, body: &[u8]) -> Note
         ensures state { self.new ≡ behind self.old (handled_cyclic self.old.live source frame_id body.now) }
         ensures due { live_due_in self.old.live ≤ live_due_in self.new.live }
+        ensures steady { (steady : Steady) → IsSteadyAt steady self.old.live → IsSteadyAt steady self.new.live }
         ensures note { result ≡ (end_of self.old.station self.old.live (handled_cyclic self.old.live source frame_id body.now)).note }
     {
         let received = self.relation.receive(source, frame_id, body);
@@ -491,6 +497,7 @@ impl<F: Flash<S>, const S: usize> Device<F, S> {
     fn give(&mut self, slot: u16, subslot: u16, value: &[u8]) -> Note
         ensures state { self.new ≡ behind self.old (handled_given self.old.live slot subslot value.now) }
         ensures due { live_due_in self.new.live ≡ live_due_in self.old.live }
+        ensures steady { (steady : Steady) → IsSteadyAt steady self.old.live → IsSteadyAt steady self.new.live }
         ensures note { result ≡ (end_of self.old.station self.old.live (handled_given self.old.live slot subslot value.now)).note }
     {
         if self.relation.give(slot, subslot, value) {

@@ -194,7 +194,7 @@ unended_apart places slot subslot some (key ∷ keys) own =
 
 -- ---- places that are changed one by one in their list
 
-mapped_items : (f : ExpectedPlace → ExpectedPlace) (places : ArrayVec ExpectedPlace) (changed : List ExpectedPlace) → changed ≡ map f places.items
+pub mapped_items : (f : ExpectedPlace → ExpectedPlace) (places : ArrayVec ExpectedPlace) (changed : List ExpectedPlace) → changed ≡ map f places.items
     → (with_items places changed).items ≡ map f places.items
 mapped_items f places changed is = items-with_items places changed (ap (λ (xs : List ExpectedPlace). length xs) is ∙ length-map places.items f) ∙ is
 

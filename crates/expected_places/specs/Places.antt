@@ -1,7 +1,7 @@
 -- The places of a relation: the submodules that its Connect expects, and how far each is since something was pulled or plugged
 -- there (IEC 61158-6-10, 4.8 and 5.2.4.5).
-use Rattle.std.specs.Prelude.{◌==◌, ◌&&◌, ◌++◌, ℕ, Bool, true, false, List, [], ◌∷◌, map, Option, Some, None, if◌then◌else◌}
-use Rattle.std.specs.List.{find}
+use Rattle.std.specs.Prelude.{◌≡◌, ◌==◌, ◌&&◌, ◌++◌, ℕ, Bool, true, false, List, [], ◌∷◌, map, Option, Some, None, if◌then◌else◌}
+use Rattle.std.specs.List.{AllByRecursion, find}
 use Rattle.wire.specs.blocks.modules.Lists.{Listed}
 use Rattle.connect_blocks.specs.declared.expected.ExpectedSubmodule.{ExpectedSubmodule}
 use Rattle.connect_blocks.specs.declared.module_diff.DiffModule.{DiffModule}
@@ -24,6 +24,14 @@ is_touched Plugged = true
 is_touched (Told number) = true
 is_touched (Ended number) = true
 is_touched Refused = true
+
+-- None of these places is touched.
+abbrev pub AreUntouched : List ExpectedPlace → Type 0
+AreUntouched places = AllByRecursion (λ place. is_touched place.step ≡ false) places
+
+-- None is, if this is known.
+abbrev pub IsWhole : Bool → List ExpectedPlace → Type 0
+IsWhole is_whole places = is_whole ≡ true → AreUntouched places
 
 -- A step in one word: what was pulled differs.
 abbrev pub step_word : Step → Progress

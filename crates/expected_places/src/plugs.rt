@@ -21,19 +21,22 @@ pub struct Plugs {
     calls: PlugCalls,
     /// Whether the alarm of a plug was sent in the relation.
     has_told: bool,
+    /// Whether it is known that no place is touched: nothing was pulled or plugged since the relation began.
+    is_whole: bool,
 }
 
 // Its model: the parts. Each call is for a place of its own, whose parameters ended with its number. So at most as many calls
-// wait as there are places.
+// wait as there are places. No place is touched while it is known that none is.
 impl Model for Plugs {
     ghost use Rattle.expected_places.specs.Called.{HaveOwn, called_keys};
     ghost use Rattle.expected_places.specs.Machine.{PlugState};
+    ghost use Rattle.expected_places.specs.Places.{IsWhole};
 
     ghost Value = { PlugState };
 
     ghost view = { λ plugs. record { places = plugs.places.items; calls = plugs.calls; has_told = plugs.has_told } };
 
-    ghost invariant = { λ plugs. HaveOwn plugs.places.items (called_keys plugs.calls) };
+    ghost invariant = { λ plugs. HaveOwn plugs.places.items (called_keys plugs.calls) × IsWhole plugs.is_whole plugs.places.items };
 }
 
 impl Plugs {
@@ -45,6 +48,7 @@ impl Plugs {
             places: ArrayVec::new(),
             calls: PlugCalls::new(),
             has_told: false,
+            is_whole: true,
         }
     }
 
@@ -55,6 +59,7 @@ impl Plugs {
         open(&mut self.places, expected, rows);
         self.calls.clear();
         self.has_told = false;
+        self.is_whole = true;
     }
 
     /// The places, in the order of the Connect.
@@ -90,6 +95,7 @@ impl Plugs {
     fn touch(&mut self, affected: Affected, step: Step)
         ensures { self.new ≡ touched affected step self.old }
     {
+        self.is_whole = false; // something was pulled or plugged
         touch(self.places.as_mut_slice(), affected, step);
         self.calls.drop_affected(affected);
     }
@@ -112,7 +118,20 @@ impl Plugs {
     }
 
     /// Whether a place is touched.
+    #[inline(always)]
     pub fn is_touched(&self, slot: u16, subslot: u16) -> bool
+        ensures { result ≡ is_touched_at slot subslot self.now }
+    {
+        // Nearly always none is.
+        if self.is_whole {
+            return false;
+        }
+        self.is_touched_at(slot, subslot)
+    }
+
+    /// The same, from the place itself.
+    #[inline(never)]
+    fn is_touched_at(&self, slot: u16, subslot: u16) -> bool
         ensures { result ≡ is_touched_at slot subslot self.now }
     {
         match place_at(self.places.as_slice(), slot, subslot) {
@@ -128,6 +147,7 @@ impl Plugs {
     {
         self.has_told = true;
         if is_last && self.is_plugged(slot, subslot) {
+            self.is_whole = false;
             step(
                 self.places.as_mut_slice(),
                 slot,
@@ -166,6 +186,7 @@ impl Plugs {
         ensures { self.new ≡ ended_at number is_ready self.old place.now }
     {
         let (slot, subslot) = (place.slot, place.subslot);
+        self.is_whole = false;
         step(
             self.places.as_mut_slice(),
             slot,
@@ -216,6 +237,7 @@ impl Plugs {
             } else {
                 Step::Refused
             };
+            self.is_whole = false;
             step(
                 self.places.as_mut_slice(),
                 call.slot,

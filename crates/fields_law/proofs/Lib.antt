@@ -4,3 +4,15 @@ pub mod ReadingAnswers
 pub mod ReadingDiagnosis
 pub mod ReadingRelation
 pub mod ReadingPort
+pub mod ReadingBlocks
+pub mod ReadingConnect
+pub mod ReadingPlanned
+pub mod ReadingModules
+pub mod ReadingAnswer
+pub mod ReadingAlarm
+pub mod ReadingRecords
+pub mod ReadingAnnouncement
+pub mod ReadingPlugged
+pub mod ReadingCalls
+pub mod ReadingStates
+pub mod ReadingPackets

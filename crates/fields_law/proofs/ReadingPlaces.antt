@@ -18,7 +18,7 @@ total [] = 0
 total (part ∷ parts) = length part + total parts
 
 -- a place after some octets
-past : (front rest : List ℕ) (more : ℕ) → drop (length front + more) (front ++ rest) ≡ drop more rest
+pub past : (front rest : List ℕ) (more : ℕ) → drop (length front + more) (front ++ rest) ≡ drop more rest
 past [] rest more = ap (λ (k : ℕ). drop k rest) (omega arith)
 past (x ∷ xs) rest more =
     let step : suc (length xs) + more ≡ suc (length xs + more) = omega arith in

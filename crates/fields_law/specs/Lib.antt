@@ -5,3 +5,13 @@ pub mod Mapper
 pub mod Diagnosis
 pub mod Relation
 pub mod Port
+pub mod Blocks
+pub mod Connect
+pub mod Kept
+pub mod Planned
+pub mod Modules
+pub mod Answer
+pub mod Alarm
+pub mod Records
+pub mod Announcement
+pub mod Calls

@@ -9,17 +9,17 @@ ghost use Rattle.std.specs.Borrow.{full_share};
 ghost use base.Logic.{ex};
 ghost use types.Logic.{sem};
 ghost use denote.RawPtr.{lies_at, room_at};
-ghost use Rattle.device_abi.specs.contracts.port.served.Port.{the_row as Row};
-ghost use Rattle.station_abi.specs.Made.{IsMade, why_not_made};
-ghost use Rattle.device_abi.specs.port.State.{closed};
-ghost use Rattle.device_abi.specs.port.Served.{Served};
-ghost use Rattle.station_abi.specs.Serves.{HandsOut, Serves, operation_of};
-ghost use Rattle.station_abi.specs.Stations.{is_station};
+ghost use Rattle.device_station.specs.contracts.port.served.Port.{the_row as Row};
+ghost use Rattle.device_abi.specs.Made.{IsMade, why_not_made};
+ghost use Rattle.device_station.specs.port.State.{closed};
+ghost use Rattle.device_station.specs.port.Served.{Served};
+ghost use Rattle.device_abi.specs.Serves.{HandsOut, Serves, operation_of};
+ghost use Rattle.device_abi.specs.Stations.{is_station};
 ghost use Rattle.nandutable.specs.Handed.{Lends};
 
 use c_layout::Op;
-use device_abi::Port;
-use station_abi::{Station, hand_out, judge, port_of, serve};
+use device_abi::{Station, hand_out, judge, port_of, serve};
+use device_station::Port;
 
 /// Returns why no device can be made from this station in a memory of `size` octets, or 0.
 #[unsafe(no_mangle)]

@@ -134,6 +134,13 @@ impl DeviceAlarms {
         self.sender.is_repeated()
     }
 
+    /// Whether an alarm waits for its ACK.
+    pub fn is_waiting(&self) -> bool
+        ensures { result ≡ is_some self.now.sender.sending.waiting }
+    {
+        self.sender.is_waiting()
+    }
+
     /// The number of units up to and including the next one with which the alarm is sent again or given up, `NEVER` if no
     /// alarm waits for its ACK.
     pub fn due_in(&self) -> u32

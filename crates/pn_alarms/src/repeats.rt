@@ -144,6 +144,13 @@ impl Repeats {
         }
     }
 
+    /// Whether data waits for its ACK.
+    pub fn is_waiting(&self) -> bool
+        ensures { result ≡ is_some self.now.waiting }
+    {
+        self.waiting.is_some()
+    }
+
     /// The number of units up to and including the next one with which the data is sent again or given up, `NEVER` if no
     /// data waits for its ACK.
     pub fn due_in(&self) -> u32

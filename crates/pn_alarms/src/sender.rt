@@ -248,6 +248,13 @@ impl Sender {
         self.repeats.is_repeated()
     }
 
+    /// Whether the alarm waits for its ACK.
+    pub fn is_waiting(&self) -> bool
+        ensures { result ≡ is_some self.now.sending.waiting }
+    {
+        self.repeats.is_waiting()
+    }
+
     /// The number of units up to and including the next one with which the alarm is sent again or given up, `NEVER` if no
     /// alarm waits for its ACK.
     pub fn due_in(&self) -> u32

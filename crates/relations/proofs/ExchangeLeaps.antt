@@ -17,7 +17,7 @@ use Rattle.relations.specs.exchange.Leaps.{BringNothing, nothing_brought}
 use Rattle.relations.specs.exchange.Units.{flow_later, tick_of}
 
 -- The exchange with these ends.
-abbrev with_ends : Flow → Cyclic → DeviceEnd → DeviceEnd → Flow
+abbrev pub with_ends : Flow → Cyclic → DeviceEnd → DeviceEnd → Flow
 with_ends flow cyclic alarms low = record flow { cyclic = cyclic; alarms = alarms; low = record flow.low { alarms = low } }
 
 abbrev only_cyclic : Bool → Brought

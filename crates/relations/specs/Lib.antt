@@ -10,6 +10,7 @@ pub mod Connect
 pub mod Ready
 pub mod Runs
 pub mod Leaps
+pub mod Steady
 pub mod Exchanged
 pub mod Plugging
 pub mod Diagnosed

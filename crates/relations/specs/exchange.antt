@@ -4,6 +4,7 @@ pub mod Flow
 pub mod Opening
 pub mod Units
 pub mod Leaps
+pub mod Calm
 pub mod Received
 pub mod Process
 pub mod Notices

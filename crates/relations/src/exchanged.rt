@@ -2,7 +2,9 @@
 ghost use Rattle.std.specs.Prelude.{◌≡◌, ◌≤◌, IfSome, Some, is_some, length, option_map, true};
 ghost use Rattle.relations.specs.declared.phase.Phase.TheVariants.{Exchanging};
 ghost use Rattle.relations.specs.Exchanged.{becoming, given_to, heard_by, hearing, output_in, provider_in, raised_to, rating, received_by, receiving, shown_as, turning};
+ghost use Rattle.relations.specs.declared.steady.Steady.{Steady};
 ghost use Rattle.relations.specs.Leaps.{due_within};
+ghost use Rattle.relations.specs.Steady.{IsSteady};
 ghost use Rattle.relations.specs.RelationState.{flow_of, phase_of};
 ghost use Rattle.relations.specs.Phases.{updated};
 ghost use Rattle.relations.specs.Diagnosed.{begin_one, beginning, diagnose_one, diagnosing, has_sent_low, heard_low, hearing_low, is_full_in, owns_in, report_one, reporting};
@@ -76,6 +78,7 @@ impl Relation {
         ensures state { self.new ≡ updated (receiving source frame_id body.now self.old) self.old }
         // It only puts off what is due.
         ensures due { due_within self.old ≤ due_within self.new }
+        ensures steady { (steady : Steady) → IsSteady steady self.old → IsSteady steady self.new }
     {
         match self.phase {
             Some(_) => self.exchange.receive(source, frame_id, body),
@@ -90,6 +93,7 @@ impl Relation {
         ensures state { self.new ≡ updated (becoming (given_to slot subslot value.now self.old)) self.old }
         // It changes nothing that is due.
         ensures due { due_within self.new ≡ due_within self.old }
+        ensures steady { (steady : Steady) → IsSteady steady self.old → IsSteady steady self.new }
     {
         match self.phase {
             Some(_) => self.exchange.give(slot, subslot, value),

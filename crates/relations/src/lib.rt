@@ -20,6 +20,7 @@ mod phase;
 mod plugging;
 mod ready;
 mod relation;
+mod steady;
 mod time;
 
 pub use cyclic_data::{ProviderStatus, ReceivedValue};
@@ -37,4 +38,5 @@ pub use plugging::{Outgoing, PlugAnswer, PlugReady};
 pub use pn_alarms::Abort;
 pub use ready::Ready;
 pub use relation::{Relation, RelationParts};
+pub use steady::Steady;
 pub use time::Elapsed;

@@ -75,7 +75,7 @@ impl Elapsed {
 }
 
 /// Whether the activity timer runs.
-fn is_timed(phase: Phase) -> bool
+pub(crate) fn is_timed(phase: Phase) -> bool
     ensures { result ≡ is_timed phase }
 {
     match phase {

@@ -8,11 +8,11 @@ use Rattle.device_frames.specs.declared.event.Event.{Event}
 use Rattle.device_frames.specs.declared.note.Note.{Note}
 use Rattle.device_core.specs.State.{Live, State, Station as Device}
 use Rattle.device_core.specs.Machine.{Stepped, step_of}
-use Rattle.station.specs.Beside.{Beside, beside, joined_beside}
-use Rattle.station.specs.Leaps.{told_at}
-use Rattle.station.specs.Serving.{Serving}
-use Rattle.station.specs.State.{Frames}
-use Rattle.station.specs.Steps.{DeviceSteps, Gives, StationSteps, StationTakes, station_of}
+use Rattle.device_station.specs.Beside.{Beside, beside, joined_beside}
+use Rattle.device_station.specs.Leaps.{told_at}
+use Rattle.device_station.specs.Serving.{Serving}
+use Rattle.device_station.specs.State.{Frames}
+use Rattle.device_station.specs.Steps.{DeviceSteps, Gives, StationSteps, StationTakes, station_of}
 use Rattle.script_session.specs.Ends.{Station, given_for}
 use Rattle.script_session.specs.Session.{IsStepFor}
 use Rattle.script_session.proofs.Begins.{running_of}

@@ -7,7 +7,7 @@ use Rattle.pn_values.specs.declared.settings.Settings.{Settings}
 use Rattle.settings_journal.specs.Image.{LeftByDevice}
 use Rattle.device_core.specs.Cycle.{started}
 use Rattle.device_core.specs.State.{Station as Device, State}
-use Rattle.station.specs.Serving.{Serving}
+use Rattle.device_station.specs.Serving.{Serving}
 use Rattle.script_session.specs.Demo.{demo_device}
 use Rattle.script_session.specs.declared.demo.DemoOptions.{DemoOptions}
 use Rattle.script_session.specs.Ends.{Running, begun, services_at}

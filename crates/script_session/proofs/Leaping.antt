@@ -6,9 +6,9 @@ use Rattle.device_frames.specs.Heard.{heard_of}
 use Rattle.device_core.specs.State.{Live, State, Station as Device}
 use Rattle.device_core.specs.Machine.{handled_step, heard_step, step_of}
 use Rattle.device_core.specs.Leaps.{Leapt, and_then, then_leap, ticks_of}
-use Rattle.station.specs.Serving.{Serving}
-use Rattle.station.specs.State.{Frames, in_order}
-use Rattle.station.specs.Leaps.{Leapt as BothLeapt, then_leap as both_then, tick_of as both_tick, ticks_of as both_ticks_of, told_at, told_if}
+use Rattle.device_station.specs.Serving.{Serving}
+use Rattle.device_station.specs.State.{Frames, in_order}
+use Rattle.device_station.specs.Leaps.{Leapt as BothLeapt, then_leap as both_then, tick_of as both_tick, ticks_of as both_ticks_of, told_at, told_if}
 use Rattle.controller_core.specs.declared.stored.event.Event.TheVariants as heard
 use Rattle.controller_core.specs.stored.State.{Controlling}
 use Rattle.controller_core.specs.Machine.{Stepped as ControllerRun, step_of as controller_step}

@@ -9,11 +9,11 @@ use Rattle.device_frames.specs.declared.note.Note.{Note}
 use Rattle.device_frames.specs.Heard.{heard_of}
 use Rattle.device_core.specs.State.{Live, State, Station as Device}
 use Rattle.device_core.specs.Machine.{Stepped, handled_step, heard_step, step_of}
-use Rattle.station.specs.Beside.{Beside, beside, joined_beside}
-use Rattle.station.specs.Leaps.{told_at, told_if}
-use Rattle.station.specs.Serving.{Serving}
-use Rattle.station.specs.State.{Frames}
-use Rattle.station.specs.Steps.{Gives, StationSteps, StationTakes, station_of}
+use Rattle.device_station.specs.Beside.{Beside, beside, joined_beside}
+use Rattle.device_station.specs.Leaps.{told_at, told_if}
+use Rattle.device_station.specs.Serving.{Serving}
+use Rattle.device_station.specs.State.{Frames}
+use Rattle.device_station.specs.Steps.{Gives, StationSteps, StationTakes, station_of}
 use Rattle.script_session.specs.Ends.{Station, given, station_step}
 use Rattle.script_session.specs.Power.{Runs}
 use Rattle.script_session.specs.Session.{IsStepped}

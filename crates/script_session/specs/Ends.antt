@@ -16,9 +16,9 @@ use Rattle.device_core.specs.Leaps.{live_due_in}
 use Rattle.device_core.specs.Machine.{Stepped, step_of}
 use Rattle.device_frames.specs.declared.note.Note.{Note}
 use Rattle.pn_values.specs.declared.settings.Settings.{Settings}
-use Rattle.station.specs.Serving.{Serving, serving_at}
-use Rattle.station.specs.Beside.{beside, joined_beside}
-use Rattle.station.specs.Leaps.{due_beside, told_at}
+use Rattle.device_station.specs.Serving.{Serving, serving_at}
+use Rattle.device_station.specs.Beside.{beside, joined_beside}
+use Rattle.device_station.specs.Leaps.{due_beside, told_at}
 use Rattle.controller_core.specs.declared.stored.event.Event.{Event as ControllerEvent}
 use Rattle.controller_core.specs.declared.stored.event.Event.TheVariants as heard
 use Rattle.controller_core.specs.stored.State.{Controlling}

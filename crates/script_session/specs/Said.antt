@@ -24,7 +24,7 @@ use Rattle.pn_values.specs.demo.Demo.{demo_real}
 use Rattle.script_session.specs.Demo.{default_choices, demo_device}
 use Rattle.script_session.specs.declared.demo.DemoOptions.{DemoOptions}
 use Rattle.script_session.specs.Ends.{Station, Turned, due_of, serving, services_at, station_step, Other, Network, DeviceRun, with_ends, arrived_at, chosen, cleared, device_run, frames_for_device, heard_by, let_out, may_request, nobody, out_from, printed_for, ticked_by, with_fresh, with_plan, with_run, with_sent}
-use Rattle.station.specs.Serving.{Serving}
+use Rattle.device_station.specs.Serving.{Serving}
 use Rattle.script_lines.specs.Places.{places_shown}
 use Rattle.script_lines.specs.Line.{Command, Frame, Restart, Tick, Elapse, Show, Due, Choose, Ready, Arm, Input, Alarm, Status, Diagnosis, Provider, Config, Start, Give, OutputStatus, Stop, Stands, Told, Read, Write, Reply, Places, Deliver, Serve, ReadyAt, Pull, PullModule, Plug, Expected, Asked, AnswerRead, AnswerWrite, Refuse, StartAlone, Hear, Value, LastRefused, Line, Unfit, Skipped, Asks, Unknown}
 use Rattle.script_lines.specs.declared.command.Choice.{Choice}

@@ -6,7 +6,7 @@ use Rattle.configurator.specs.declared.fault.PlanFault.{PlanFault}
 use Rattle.configurator.specs.declared.fault.PlanFault.TheVariants.{OutOfMemory}
 use Rattle.configurator.specs.Planned.{IsRefused}
 use Rattle.device_frames.specs.declared.note.Note.{Note}
-use Rattle.station.specs.State.{Frames, in_order}
+use Rattle.device_station.specs.State.{Frames, in_order}
 use Rattle.script_lines.specs.Line.{Config, Line, Asks}
 use Rattle.script_lines.specs.Text.{note_line}
 use Rattle.device_frames.specs.declared.event.Event.{Event}

@@ -4,7 +4,7 @@ ghost use Rattle.flash_model.specs.Memory.{is_powerless};
 ghost use Rattle.device_frames.specs.declared.event.Event.TheVariants as event;
 ghost use Rattle.script_lines.specs.Text.{lost_line};
 ghost use Rattle.device_frames.specs.declared.note.Note.{Note};
-ghost use Rattle.station.specs.State.{in_order};
+ghost use Rattle.device_station.specs.State.{in_order};
 ghost use Rattle.script_session.specs.Ends.{Network, Station, device_run, due_with, station_in, station_step};
 ghost use Rattle.script_session.specs.Said.{deliver_answer, event_answer};
 ghost use Rattle.script_session.specs.Off.{Delivers};
@@ -14,9 +14,9 @@ ghost use Rattle.script_session.specs.Session.{IsDone, IsRunOf, IsStepFor, IsTol
 use crate::other_end::OtherEnd;
 use crate::power::DemoStation;
 use device_core::Event;
+use device_station::StationOutbox;
 use flash_model::Flash;
 use script_lines::render;
-use station::StationOutbox;
 use std::alloc::AllocError;
 
 /// Makes a step of the device, and renders the result of the event, or that power was lost. The frames that the device

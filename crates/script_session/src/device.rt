@@ -9,9 +9,9 @@ ghost use Rattle.script_session.specs.Session.{IsHandedTo};
 use crate::power::DemoStation;
 use crate::waiting::append_all;
 use device_core::{Event, Octets};
+use device_station::StationOutbox;
 use flash_model::Flash;
 use frame_codec::Frame;
-use station::StationOutbox;
 use std::alloc::AllocError;
 
 /// Hands frames to the device, until power is lost. What the device sends waits for the controller.

@@ -5,15 +5,15 @@ ghost use Rattle.pn_values.specs.declared.settings.Settings.{Settings};
 ghost use Rattle.flash_model.specs.Image.{erased};
 ghost use Rattle.flash_model.specs.Memory.{image_of, IsReliable};
 ghost use Rattle.settings_journal.specs.Image.{StartsWith, LeftByDevice, capacity};
-ghost use Rattle.station.specs.Serving.{serving_at};
+ghost use Rattle.device_station.specs.Serving.{serving_at};
 
 use crate::demo::DemoOptions;
 use device_core::{Device, Event, Note};
-use flash_model::{Flash, Lent, MemoryFlash, Order};
-use settings_journal::BootFault;
-use station::{
+use device_station::{
     DeviceServices, StationOutbox, due_beside, elapse_alone, elapse_beside, step_alone, step_beside,
 };
+use flash_model::{Flash, Lent, MemoryFlash, Order};
+use settings_journal::BootFault;
 use std::marker::Model;
 
 /// The flash of the demo device. The device borrows it: it is large, and is not moved.

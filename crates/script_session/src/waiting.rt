@@ -1,10 +1,10 @@
 // Frames that wait to be handed over.
 ghost use Rattle.std.specs.Prelude.{◌≡◌, ◌++◌, OnOk};
 ghost use Rattle.script_session.specs.Ends.{octets_of};
-ghost use Rattle.station.specs.State.{in_order};
+ghost use Rattle.device_station.specs.State.{in_order};
 
+use device_station::StationOutbox;
 use frame_codec::Frame;
-use station::StationOutbox;
 use std::alloc::AllocError;
 
 /// Appends copies of frames.

@@ -12,11 +12,11 @@ use Rattle.device_frames.specs.Heard.{heard_of}
 use Rattle.device_core.specs.State.{Live, Station}
 use Rattle.device_core.specs.State as device
 use Rattle.device_core.specs.Machine.{handled_step, heard_step}
-use Rattle.station.specs.Beside.{is_dropped, joined_beside, joined_by}
-use Rattle.station.specs.Leaps.{told_at, told_if}
-use Rattle.station.specs.Serving.{Serving}
-use Rattle.station.specs.State.{Frames, State}
-use Rattle.station.specs.Steps.{DeviceSteps, Gives, StationSteps}
+use Rattle.device_station.specs.Beside.{is_dropped, joined_beside, joined_by}
+use Rattle.device_station.specs.Leaps.{told_at, told_if}
+use Rattle.device_station.specs.Serving.{Serving}
+use Rattle.device_station.specs.State.{Frames, State}
+use Rattle.device_station.specs.Steps.{DeviceSteps, Gives, StationSteps}
 use Rattle.strangers_law.specs.Device.{AreAnswers, IsIn, IsLeft, IsNoExchange, IsStrange, frames_stored}
 use Rattle.strangers_law.specs.Station.{IsKept, IsStrangeOrNone, LeavesServed, LeavesStations, completing}
 use Rattle.strangers_law.proofs.Controllers.{leaves_controllers}

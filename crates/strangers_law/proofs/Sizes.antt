@@ -23,8 +23,8 @@ use Rattle.lldp.specs.State as near
 use Rattle.device_frames.specs.declared.event.Event.{Event}
 use Rattle.device_frames.specs.declared.event.Event.TheVariants.{Frame, Tick}
 use Rattle.device_frames.specs.declared.note.Note.{Note}
-use Rattle.station.specs.Beside.{Beside, beside, event_beside, is_dropped}
-use Rattle.station.specs.Serving.{Serving, after_piece, met, observed, overheard, pieced}
+use Rattle.device_station.specs.Beside.{Beside, beside, event_beside, is_dropped}
+use Rattle.device_station.specs.Serving.{Serving, after_piece, met, observed, overheard, pieced}
 use Rattle.controller_core.specs.declared.stored.event.Event.{Event as ControllerEvent}
 use Rattle.controller_core.specs.declared.stored.event.Event.TheVariants as said
 use Rattle.controller_core.specs.Machine.{step_of}

@@ -28,9 +28,9 @@ use Rattle.device_frames.specs.declared.note.Note.{Note}
 use Rattle.device_frames.specs.Heard.{heard_of}
 use Rattle.device_core.specs.State.{Live, Station}
 use Rattle.device_core.specs.Machine.{handled_step, heard_step}
-use Rattle.station.specs.Beside.{Beside, answer_beside, beside, event_beside, is_dropped}
-use Rattle.station.specs.Leaps.{told_if}
-use Rattle.station.specs.Serving.{Serving, announces, answer_by, answered, completed_or, or_else, piece_by as piece_for, piece_of as piece_from, replied, reply_to, said_of}
+use Rattle.device_station.specs.Beside.{Beside, answer_beside, beside, event_beside, is_dropped}
+use Rattle.device_station.specs.Leaps.{told_if}
+use Rattle.device_station.specs.Serving.{Serving, announces, answer_by, answered, completed_or, or_else, piece_by as piece_for, piece_of as piece_from, replied, reply_to, said_of}
 use Rattle.controller_core.specs.declared.stored.event.Event.{Event as ControllerEvent}
 use Rattle.controller_core.specs.declared.stored.event.Event.TheVariants as said
 use Rattle.controller_core.specs.Machine.{step_of}

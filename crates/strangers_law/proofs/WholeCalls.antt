@@ -19,8 +19,8 @@ use Rattle.rpc_services.specs.endpoint_mapper.Mapper.{mapped, mapped_by, mapped_
 use Rattle.device_frames.specs.declared.event.Event.{Event}
 use Rattle.device_frames.specs.declared.event.Event.TheVariants.{Frame}
 use Rattle.device_frames.specs.declared.note.Note.{Note}
-use Rattle.station.specs.Beside.{Beside, beside, is_dropped}
-use Rattle.station.specs.Serving.{Serving, answer_by, answered, or_else, piece_by as piece_for, piece_of as piece_from}
+use Rattle.device_station.specs.Beside.{Beside, beside, is_dropped}
+use Rattle.device_station.specs.Serving.{Serving, answer_by, answered, or_else, piece_by as piece_for, piece_of as piece_from}
 use Rattle.octets_law.proofs.Repeats.{same_octets}
 use Rattle.strangers_law.specs.Beside.{CallsWhole, IsWholeCall, ServicesLeaveCalls}
 

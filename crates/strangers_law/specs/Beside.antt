@@ -18,9 +18,9 @@ use Rattle.rpc_core.specs.call_headers.Call.{head}
 use Rattle.rpc_core.specs.call_headers.Unserved.{names_interface}
 use Rattle.rpc_services.specs.pieces.Piece.{is_fragment}
 use Rattle.rpc_services.specs.pieces.State.{Unfinished}
-use Rattle.station.specs.Serving.{Serving, serving_at}
-use Rattle.station.specs.State.{Frames, State}
-use Rattle.station.specs.Steps.{StationTakes}
+use Rattle.device_station.specs.Serving.{Serving, serving_at}
+use Rattle.device_station.specs.State.{Frames, State}
+use Rattle.device_station.specs.Steps.{StationTakes}
 use Rattle.controller_messages.specs.declared.setup.Setup.{Setup}
 use Rattle.controller_core.specs.declared.stored.event.Event.{Event as ControllerEvent}
 use Rattle.controller_core.specs.stored.State.{Controlling}

@@ -6,9 +6,9 @@ use Rattle.device_frames.specs.declared.event.Event.{Event}
 use Rattle.device_frames.specs.declared.event.Event.TheVariants.{Frame}
 use Rattle.device_frames.specs.declared.note.Note.{Note}
 use Rattle.device_core.specs.State.{Live, Station}
-use Rattle.station.specs.Serving.{Serving, completed, piece_in}
-use Rattle.station.specs.State.{Frames, State}
-use Rattle.station.specs.Steps.{StationTakes}
+use Rattle.device_station.specs.Serving.{Serving, completed, piece_in}
+use Rattle.device_station.specs.State.{Frames, State}
+use Rattle.device_station.specs.Steps.{StationTakes}
 use Rattle.controller_core.specs.declared.stored.event.Event.{Event as ControllerEvent}
 use Rattle.controller_station.specs.Runs.{after_event, sent_at}
 use Rattle.controller_station.specs.Served.{Served}

@@ -9,6 +9,7 @@ mod differences;
 mod listings;
 mod lists;
 mod low_alarms;
+mod named;
 mod ports;
 mod reads;
 mod records;

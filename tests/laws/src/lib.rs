@@ -4,9 +4,11 @@
 //! Each law is read from octets and from what both ends show, and shares no line with its definition in crates/*/specs.
 #![cfg(test)]
 
+mod answers;
 mod cyclic;
 mod exchange;
 mod inputs;
+mod interval;
 mod owed;
 mod plant;
 mod refused;

@@ -4,8 +4,9 @@
 //! `Journal::commit`: `kept`).
 use asked_records::NamedRecords;
 use crate::plant::{as_planned, payload};
-use device_abi::{Operation, Port, play};
+use device_abi::{Operation, play};
 use device_core::{Device, Event, Sink};
+use device_station::Port;
 use flash_model::{FlashFault, MemoryFlash, Order, Sector};
 use frame_codec::{Frame, Outbox};
 use pn_values::demo_identity;

@@ -53,6 +53,21 @@ fn a_link() {
     assert_eq!(with.as_slice()[place + 11..], without.as_slice()[place..]);
 }
 
+/// Octets that Scapy built from the names of the fields (`tests/interoperation/scapy_fields.py`).
+#[test]
+fn as_scapy_names_it() {
+    let named = |name: &str| {
+        let lines = include_str!("../../interoperation/named.txt").lines();
+        octets(lines.filter_map(|line| line.strip_prefix(name)?.strip_prefix(' ')).next().expect("is listed"))
+    };
+    let link = Link { support: 3, capability: 0x8036, mau_type: 16 };
+    let station = Mac { octets: [2, 0, 0, 0, 0, 1] };
+    let frame = announcement(station, &name("pump-1"), [192, 168, 0, 2], Some(link));
+    assert_eq!(frame.as_slice(), named("ANNOUNCEMENT"));
+    let frame = announcement(station, &StationName::none(), [0; 4], None);
+    assert_eq!(frame.as_slice(), named("ANNOUNCEMENT_WITHOUT_A_NAME"));
+}
+
 /// The shortest frame of Ethernet has 60 octets without its check sequence.
 #[test]
 fn a_short_frame_is_padded() {

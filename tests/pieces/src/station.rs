@@ -3,9 +3,9 @@
 use super::passes::{body, connect, write};
 use super::writer::{Packet, fragment};
 use device_core::Note;
+use device_station::{IoStation, StationOutbox};
 use flash_model::MemoryFlash;
 use frame_codec::{Bytes, Outbox, ones_sum};
-use station::{IoStation, StationOutbox};
 use test_stations::{addressed, frame as heard};
 
 /// The frame that takes the body of a datagram from 192.168.0.1 to the station.

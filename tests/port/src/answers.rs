@@ -6,13 +6,13 @@ use crate::passed::BEFORE;
 use crate::served::octets;
 use crate::stations::demo;
 use c_layout::Op;
-use device_abi::{Operation, Port, play};
+use device_abi::{Operation, hand_out, play, serve};
 use device_core::{Event, Sink};
+use device_station::Port;
 use flash_model::{MemoryFlash, Sector};
 use frame_codec::Frame;
 use pn_values::demo_identity;
 use relations::DeviceOptions;
-use station_abi::{hand_out, serve};
 use test_stations::{READ, RELEASE, WRITE, call};
 
 /// Frames that nobody looks at.

@@ -1,6 +1,6 @@
 //! Calls of a port, each by the number of what came of it: 0 where it was carried out. None has a contract, so that what a port
 //! promises of a call is read in one function, and not again in each test.
-use device_abi::{Port, Refusal};
+use device_station::{Port, Refusal};
 use flash_model::Sector;
 
 fn number<T>(outcome: Result<T, Refusal>) -> u32 {

@@ -3,9 +3,9 @@ use crate::operations::{asked, lines_of};
 use crate::passed::{BEFORE, exchanging_with};
 use crate::served::octets;
 use c_layout::Op;
-use device_abi::Port;
+use device_abi::{hand_out, serve};
+use device_station::Port;
 use relations::DeviceOptions;
-use station_abi::{hand_out, serve};
 use test_stations::{CONTROL, END, RELEASE, call};
 
 /// The numbers of the operations that report it.
@@ -95,7 +95,7 @@ fn ack() -> Vec<u8> {
 }
 
 /// A cyclic frame with this CycleCounter.
-fn outputs(counter: u16) -> Vec<u8> {
+pub(crate) fn outputs(counter: u16) -> Vec<u8> {
     octets(&format!("0200000000010200000000028100c0008892c000aa558080808080{:066}{counter:04x}3500", 0))
 }
 

@@ -1,7 +1,7 @@
 //! Units of time at a station that exchanges, up to the first that sends something.
 use crate::calls;
 use crate::stations::{booted, kind};
-use device_abi::Port;
+use device_station::Port;
 use rattle_std::alloc::Global;
 
 /// A Set of the address 192.168.0.2, and a Connect whose inputs are sent each millisecond, 32 units, as Scapy 2.5.0 builds them.

@@ -1,6 +1,6 @@
 //! Stations as a host in C writes them: which are refused, and with which number.
 use c_layout::{Module, Parameter, Submodule};
-use station_abi::{Record, Station, judge};
+use device_abi::{Record, Station, judge};
 
 fn submodule(subslot: u16) -> Submodule {
     Submodule {

@@ -7,6 +7,7 @@ mod answers;
 mod calls;
 mod confirmed;
 mod cycles;
+mod exchange;
 mod host;
 mod judged;
 mod modules;

@@ -5,11 +5,11 @@ use crate::operations::{asked, lines_of};
 use crate::passed::BEFORE;
 use crate::served::octets;
 use crate::stations::{booted, demo};
-use device_abi::Port;
+use device_abi::{hand_out, serve};
+use device_station::Port;
 use flash_model::Sector;
 use pn_values::demo_identity;
 use relations::DeviceOptions;
-use station_abi::{hand_out, serve};
 use test_stations::{CONTROL, call, set};
 
 /// The numbers of the operations.

@@ -1,8 +1,8 @@
 //! Operations as a host in C calls them: numbers, answers, and where the reported values are.
 use crate::served::{alone, booted, busy, lost, made};
 use c_layout::Op;
-use station_abi::{Reason, hand_out, serve};
-use device_abi::Port;
+use device_abi::{Reason, hand_out, serve};
+use device_station::Port;
 use std::mem::offset_of;
 use test_stations::SET;
 

@@ -3,11 +3,11 @@ use asked_records::NamedRecords;
 use crate::operations::asked;
 use crate::served::octets;
 use crate::stations::demo;
+use device_abi::{hand_out, serve};
+use device_station::Port;
 use flash_model::Sector;
 use pn_values::{ParameterRecord, Real, demo_identity};
 use relations::DeviceOptions;
-use station_abi::{hand_out, serve};
-use device_abi::Port;
 use test_stations::{WRITE, call};
 
 /// The name, the address, a Connect, PrmEnd, and the answer to ApplicationReady, of the demo station (a reference model).

@@ -1,7 +1,8 @@
 //! Modules that come and go at a port: what it is handed, what it reports then, and why it does nothing.
 use crate::stations::{booted, busy, demo, kind, lost, made};
-use device_abi::{Operation, Port, Refusal, play};
+use device_abi::{Operation, play};
 use device_core::{Event, Note, Sink};
+use device_station::{Port, Refusal};
 use flash_model::MemoryFlash;
 use frame_codec::Frame;
 use pn_values::RealSubmodule;

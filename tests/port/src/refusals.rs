@@ -5,7 +5,7 @@ use crate::calls::{
 use crate::stations::{booted, busy, lost, made};
 use c_layout::{BAD_ABI, BAD_DATA, BAD_LENGTH, BAD_MAC, BAD_PARAMETER, BAD_PLAN, BAD_SLOT, BAD_STATION, BAD_SUBSLOT};
 use c_layout::{HAS_WORK, NO_PLACE, NO_RECORD, NO_SLOT, PLAN_FAULT, REFUSED, SMALL_ROOM, UNKNOWN};
-use device_abi::{Port, Refusal};
+use device_station::{Port, Refusal};
 use flash_model::Sector;
 use test_stations::{IDENTIFY, SET};
 

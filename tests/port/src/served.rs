@@ -1,15 +1,14 @@
 //! A port with the services beside its device: the services answer what the device drops, and units of time do the same however
-//! they are divided. The device and its services as `station` runs them, event by event, are what the port is compared with.
+//! they are divided. The device and its services as `device_station::IoStation` runs them, event by event, are what the port is compared with.
 use asked_records::NamedRecords;
 use crate::operations::asked;
 use crate::stations::demo;
-use device_abi::{Operation, Port, play};
+use device_abi::{Operation, hand_out, play, serve};
 use device_core::{Device, Event, Octets, Sink};
+use device_station::{IoStation, Port, StationOutbox};
 use flash_model::{MemoryFlash, Sector};
 use pn_values::demo_identity;
 use relations::DeviceOptions;
-use station::{IoStation, StationOutbox};
-use station_abi::{hand_out, serve};
 use test_stations::SET;
 
 /// A Set of the IP address 192.168.0.2, temporary.
@@ -17,10 +16,10 @@ const ADDRESS: &str = "0200000000010200000000028892fefd0400000000020000001201020
 /// One of 192.168.0.7.
 const OTHER_ADDRESS: &str = "0200000000010200000000028892fefd040000000003000000120102000e0000c0a80007ffffff0000000000";
 /// An echo request to the first address, and its reply (Scapy 2.5).
-const PING: &str = "0200000000010200000000020800450000240005400080017980c0a80001c0a800020800542f12340007616263646566676800000000000000000000";
+pub(crate) const PING: &str = "0200000000010200000000020800450000240005400080017980c0a80001c0a800020800542f12340007616263646566676800000000000000000000";
 const PINGED: &str = "020000000002020000000001080045000024000040004001b985c0a80002c0a8000100005c2f12340007616263646566676800000000000000000000";
 /// A Set of Signal: the lamp flashes for three seconds.
-const SIGNAL: &str = "0200000000010200000000028892fefd040000000009000000080503000400000100000000000000000000000000000000000000000000000000000000";
+pub(crate) const SIGNAL: &str = "0200000000010200000000028892fefd040000000009000000080503000400000100000000000000000000000000000000000000000000000000000000";
 /// A reply of ARP by another station that says that it holds the first address.
 const RIVAL: &str = "02000000004402000000003308060001080006040002020000000033c0a80002020000000002c0a80001";
 
@@ -79,7 +78,7 @@ pub(crate) fn lost() -> Port {
 }
 
 /// All frames of the last step, in order; its flash calls are carried out.
-fn sent(port: &mut Port) -> Vec<Vec<u8>> {
+pub(crate) fn sent(port: &mut Port) -> Vec<Vec<u8>> {
     let mut frames = Vec::new();
     loop {
         let (mut op, mut answer) = (asked(0), 9);
@@ -102,13 +101,13 @@ fn take(port: &mut Port, octets: &[u8]) -> u32 {
     answer
 }
 
-fn hear(port: &mut Port, digits: &str) -> Vec<Vec<u8>> {
+pub(crate) fn hear(port: &mut Port, digits: &str) -> Vec<Vec<u8>> {
     assert_eq!(take(port, &octets(digits)), 0);
     sent(port)
 }
 
 /// The number of units that remain of these, what is due then, and what they sent.
-fn pass(port: &mut Port, units: u32) -> (u32, u32, Vec<Vec<u8>>) {
+pub(crate) fn pass(port: &mut Port, units: u32) -> (u32, u32, Vec<Vec<u8>>) {
     let mut op = asked(4);
     (op.units, op.note, op.work) = (units, 9, 9);
     assert_eq!(serve(port, &mut op, &[]), 0);
@@ -117,7 +116,7 @@ fn pass(port: &mut Port, units: u32) -> (u32, u32, Vec<Vec<u8>>) {
 }
 
 /// The same, unit by unit.
-fn pass_each(port: &mut Port, units: u32) -> (u32, u32, Vec<Vec<u8>>) {
+pub(crate) fn pass_each(port: &mut Port, units: u32) -> (u32, u32, Vec<Vec<u8>>) {
     for passed in 1..=units {
         let (left, due, frames) = pass(port, 1);
         assert_eq!(left, 0);
@@ -226,29 +225,29 @@ fn a_device_alone_answers_no_ping() {
 }
 
 /// The device and its services, event by event.
-struct Model {
-    station: IoStation<MemoryFlash<4096>, 4096>,
+pub(crate) struct Model {
+    pub(crate) station: IoStation<MemoryFlash<4096>, 4096>,
     outbox: StationOutbox,
 }
 
 impl Model {
-    fn new() -> Model {
+    pub(crate) fn new() -> Model {
         let device = Device::boot(demo_identity(), demo(), MemoryFlash::blank());
         Model { station: IoStation::new(device.ok().expect("starts")), outbox: StationOutbox::new() }
     }
 
-    fn step(&mut self, event: &Event<'_>) -> Vec<Vec<u8>> {
+    pub(crate) fn step(&mut self, event: &Event<'_>) -> Vec<Vec<u8>> {
         let _ = self.station.step(event, &mut self.outbox);
         let all = [self.outbox.device(), self.outbox.services()];
         all.iter().flat_map(|frames| frames.iter().map(|frame| frame.as_slice().to_vec())).collect()
     }
 
-    fn hear(&mut self, digits: &str) -> Vec<Vec<u8>> {
+    pub(crate) fn hear(&mut self, digits: &str) -> Vec<Vec<u8>> {
         self.step(&Event::Frame(Octets::of(&octets(digits))))
     }
 
     /// Up to the first unit that sends something.
-    fn pass(&mut self, units: u32) -> (u32, Vec<Vec<u8>>) {
+    pub(crate) fn pass(&mut self, units: u32) -> (u32, Vec<Vec<u8>>) {
         for passed in 0..units {
             let frames = self.step(&Event::Tick);
             if !frames.is_empty() {

@@ -1,9 +1,9 @@
 //! The ports that are tried.
 use asked_records::NamedRecords;
 use crate::calls;
+use device_station::{Port, Recorded, Work};
 use pn_values::{Real, demo_identity};
 use relations::DeviceOptions;
-use device_abi::{Port, Recorded, Work};
 use flash_model::Sector;
 use test_stations::{SET, plugged};
 

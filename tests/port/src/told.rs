@@ -1,7 +1,7 @@
 //! What a port tells, and time that goes by.
 use crate::calls;
 use crate::stations::{booted, busy, kind, made};
-use device_abi::{Port, Stage};
+use device_station::{Port, Stage};
 
 // There is no relation, and so no record that one took; the lamp does not flash.
 fn tells_no_relation(port: &Port) {

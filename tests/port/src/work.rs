@@ -2,7 +2,7 @@
 use crate::calls;
 use crate::stations::{booted, busy, kind};
 use device_core::Note;
-use device_abi::{Port, Stage, Work};
+use device_station::{Port, Stage, Work};
 use test_stations::{DONE, IDENTIFY, is_filled};
 
 // The kind of the next work, which is handed out.

@@ -2,9 +2,9 @@
 use controller_core::{Controller, ControllerOptions, Event as ControllerEvent};
 use controller_station::{ServedController, ServedOutbox};
 use device_core::{Device, Event as DeviceEvent};
+use device_station::{DeviceServices, StationOutbox, due_beside, elapse_beside, step_beside};
 use flash_model::MemoryFlash;
 use frame_codec::{Frame, Outbox};
-use station::{DeviceServices, StationOutbox, due_beside, elapse_beside, step_beside};
 use uuid::Uuid;
 
 /// A device over the smallest flash.

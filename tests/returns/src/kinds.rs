@@ -2,6 +2,7 @@
 use crate::draws::Draws;
 use crate::ends::{Options, Plant};
 use crate::faults::Fault;
+use crate::limits;
 use crate::model::{self, Record, Setting};
 use configurator::plan_from_json;
 use controller_core::ControllerOptions;
@@ -164,7 +165,7 @@ pub fn setting_of(text: &str, words: &[&str]) -> Setting {
 /// The limits N and N' as the product computes them, of a plan and of the patience of its controllers.
 pub fn limits_of(plan: &Plan, patience: ControllerOptions) -> (u64, u64) {
     let times = plan.times();
-    let limits = progress::Plan {
+    let limits = limits::Plan {
         writes: controller_messages::write_count(plan),
         patience: patience.patience,
         waiting: patience.waiting_patience,
@@ -173,5 +174,5 @@ pub fn limits_of(plan: &Plan, patience: ControllerOptions) -> (u64, u64) {
         repeat: 32_000,
         pause: crate::ends::PAUSE,
     };
-    (progress::start_up_limit(limits), progress::comeback_limit(limits))
+    (limits::start_up_limit(limits), limits::comeback_limit(limits))
 }

@@ -7,6 +7,7 @@ mod good;
 mod held;
 mod judge;
 mod kinds;
+mod limits;
 mod model;
 mod schedule;
 mod seen;

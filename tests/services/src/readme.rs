@@ -3,9 +3,9 @@
 use super::stations::{PING, PINGED, SET_ADDRESS};
 use super::octets;
 use device_core::{Device, Event, Note, Octets};
+use device_station::{IoStation, StationOutbox};
 use flash_model::MemoryFlash;
 use pn_values::{Identity, Real, demo_identity, demo_modules};
-use station::{IoStation, StationOutbox};
 
 /// The host of the example, until its events end. It hands on the frames to be sent, and what its application learns.
 fn host<'a>(

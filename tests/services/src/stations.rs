@@ -2,11 +2,11 @@
 
 use super::{ANNOUNCEMENT, octets};
 use device_core::{Device, Event, Note, Octets, Sink};
+use device_station::{IoStation, StationOutbox, cycle};
 use flash_model::MemoryFlash;
 use frame_codec::Frame;
 use lldp::Link;
 use pn_values::{demo_identity, demo_modules};
-use station::{IoStation, StationOutbox, cycle};
 
 /// A Set of the IP address 192.168.0.2, permanent.
 pub const SET_ADDRESS: &str =

@@ -1,8 +1,10 @@
 //! The units of time.
-ghost use Rattle.std.specs.Prelude.{◌≡◌, ◌<◌, ◌≤◌, ◌&&◌, None, Some, false, is_none, not, true};
+ghost use Rattle.std.specs.Prelude.{◌≡◌, ◌<◌, ◌≤◌, ◌+◌, ◌-◌, ◌&&◌, None, Some, false, is_none, not, true};
 ghost use Rattle.pn_alarms.specs.Leaps.{after};
+ghost use Rattle.pn_alarms.specs.declared.repeats.Due.TheVariants.{Nothing};
+ghost use Rattle.cyclic_data.specs.Leaps.{frame_due_in};
 ghost use Rattle.cyclic_data.specs.exchange.Units.{cyclic_later, tick_of};
-ghost use Rattle.cyclic_data.specs.exchange.Leaps.{IsQuietFor, cyclic_due_in, silent_in};
+ghost use Rattle.cyclic_data.specs.exchange.Leaps.{IsQuietFor, cyclic_due_in, frame_alone, silent_in, waited_for};
 
 use crate::exchange::exchange::CyclicExchange;
 use pn_alarms::{Abort, Due, NEVER};
@@ -164,12 +166,23 @@ impl CyclicExchange {
         ensures some { 0 < result }
         ensures few { result ≤ 8388608 }
     {
-        self.provider.due_in().min(self.silent_in())
+        self.frame_in().min(self.silent_in())
+    }
+
+    /// The number of units up to and including the next one with which a frame is due.
+    #[inline(always)]
+    pub fn frame_in(&self) -> u32
+        ensures value { result ≡ frame_due_in self.now.sending }
+        ensures some { 0 < result }
+        ensures few { result ≤ 8388608 }
+    {
+        self.provider.due_in()
     }
 
     /// The number of units up to and including the next one with which the data hold time is over, `NEVER` if no data is
     /// exchanged.
-    fn silent_in(&self) -> u32
+    #[inline(always)]
+    pub fn silent_in(&self) -> u32
         ensures value { result ≡ silent_in self.now }
         ensures some { 0 < result }
     {
@@ -186,11 +199,38 @@ impl CyclicExchange {
         requires { units < cyclic_due_in self.old }
         ensures state { self.new ≡ after cyclic_later units self.old }
         ensures quiet { IsQuietFor units self.old }
+        // The next frame comes nearer by these units, and the end of the data hold time by no more.
+        ensures frame { frame_due_in self.old.sending ≡ frame_due_in self.new.sending + units }
+        ensures held { silent_in self.old ≤ silent_in self.new + units }
     {
         self.provider.pass(units);
-        if !self.begun {
-            return;
+        self.wait(units);
+    }
+
+    /// Counts several units of the data hold time, which runs while data is exchanged. It may not be over with any of them.
+    #[inline(always)]
+    fn wait(&mut self, units: u32)
+        requires { units < silent_in self.old }
+        ensures { self.new ≡ record self.old { hearing = waited_for units self.old } }
+    {
+        if self.begun {
+            self.consumer.pass(units);
         }
-        self.consumer.pass(units);
+    }
+
+    /// Counts several units of 31.25 microseconds at once, up to the next one with which a frame is due. With none of them may
+    /// the data hold time be over.
+    #[inline(always)]
+    pub fn send(&mut self, units: u32)
+        requires due { units ≡ frame_due_in self.old.sending }
+        requires held { units < silent_in self.old }
+        ensures state { self.new ≡ after cyclic_later units self.old }
+        ensures quiet { IsQuietFor (units - 1) self.old }
+        ensures some { 0 < units }
+        // Only a frame is due with the last one.
+        ensures last { tick_of (after cyclic_later (units - 1) self.old) Nothing ≡ frame_alone }
+    {
+        self.provider.restart();
+        self.wait(units);
     }
 }

@@ -248,6 +248,13 @@ impl DiagnosisAlarms {
         self.alarms.is_repeated()
     }
 
+    /// Whether an alarm waits for its ACK.
+    pub fn is_waiting(&self) -> bool
+        ensures { result ≡ is_some self.now.alarms.sender.sending.waiting }
+    {
+        self.alarms.is_waiting()
+    }
+
     /// The number of units up to and including the next one with which the alarm is sent again or given up, `NEVER` if no
     /// alarm waits for its ACK.
     pub fn due_in(&self) -> u32

@@ -34,13 +34,13 @@ use denote.Triple.Clauses.{lasts}
 use denote.Triple.Spec.{triple_of}
 use denote.Triple.Table.{framed}
 use denote.Triple.Walked.{Stays, walk_of, says, stay_dropped, stay_ref, gave_ref, Goes-dropped, Goes-gave_ref, Goes-ref, ends_at}
-use Rattle.device_abi.specs.port.State.{closed}
-use Rattle.device_abi.specs.port.Served.{Served}
-use Rattle.station_abi.specs.Serves.{HandsOut}
+use Rattle.device_station.specs.port.State.{closed}
+use Rattle.device_station.specs.port.Served.{Served}
+use Rattle.device_abi.specs.Serves.{HandsOut}
 use Rattle.c_layout.specs.contracts.op.Op.{the_row as O}
-use Rattle.device_abi.specs.contracts.port.served.Port.{the_row as R}
-use Rattle.station_abi.specs.contracts.hand_out as g
-use Rattle.station_abi.proofs.hand_out.Met.{met}
+use Rattle.device_station.specs.contracts.port.served.Port.{the_row as R}
+use Rattle.device_abi.specs.contracts.hand_out as g
+use Rattle.device_abi.proofs.hand_out.Met.{met}
 use Rattle.nandutable.specs.Handed.{lie_for, Lends}
 use Rattle.nandutable.proofs.Said.{said}
 use Rattle.nandutable.specs.contracts.pn_fetch as f
@@ -106,7 +106,7 @@ pn_fetch_spec 𝓤 𝓛 𝓜 𝓡 wired =
     nothing ! $ move ! (8 ∷ 0 ∷ []) $ join ! $ move ! (7 ∷ 0 ∷ []) $ join ! $ move ! (4 ∷ 0 ∷ []) $ join ! $
     nothing ! $ move ! (3 ∷ 0 ∷ []) $ join ! $ move ! (3 ∷ 0 ∷ []) $ join ! $ move ! (4 ∷ 0 ∷ []) $ join ! $ join ! $
     nothing ! $ move ! (1 ∷ 0 ∷ []) $ use2 𝓛 (raw (G.pre z)) (id⊢ 𝓤 _) $
-    calls_at ! (framed 𝓤 𝓛.H 𝓜 𝓣) G (met 𝓤 𝓛 𝓜 𝓡 (code.calls-station_abi::hand_out 𝓡.env wired)) z (and_then ! (get ! refl) (and_then ! (get ! refl) (and_then ! (get ! refl) (no_more !)))) (λ v.
+    calls_at ! (framed 𝓤 𝓛.H 𝓜 𝓣) G (met 𝓤 𝓛 𝓜 𝓡 (code.calls-device_abi::hand_out 𝓡.env wired)) z (and_then ! (get ! refl) (and_then ! (get ! refl) (and_then ! (get ! refl) (no_more !)))) (λ v.
     use1 𝓛 (later (some (λ (r : Bor (List ℕ)). ((‵ (flft (α ∷ []) full_share) ⊛ Passed) ⊛ Octets (α ∷ []) r (v ∷ [])) ⊛
     some (λ (ws : Unit {0} × (O.Denot × (ℕ × Unit {0}))). ‵ (lasts g.ended z.0.0 z.0.3 ws) ⊛ ‵ (follows_so R R γ none (λ _ _. ⊤) (λ new. IsHanded ws.1.0 ws.1.1.0 r.now new)))))) (id⊢ 𝓤 _) $
     await ! tt $ pick ! (λ r. split ! $ split ! $ split ! $

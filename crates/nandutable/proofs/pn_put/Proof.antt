@@ -26,14 +26,14 @@ use denote.Triple.Spec.{triple_of}
 use denote.Triple.Table.{framed}
 use denote.Triple.Walked.{Stays, walk_of, says, stay_dropped, Goes-dropped, ends_at}
 use borrow.Table.OneValue.{part_in}
-use Rattle.device_abi.specs.port.Served.{Served}
-use Rattle.device_abi.specs.contracts.port.served.Port.{the_row as R}
-use Rattle.device_abi.proofs.port.served.Port.TheLaws.{the_row_laws as port_laws}
-use Rattle.station_abi.specs.Made.{IsMade}
-use Rattle.station_abi.specs.Stations.{is_station}
-use Rattle.station_abi.specs.contracts.c_station.Station.{the_row as S}
-use Rattle.station_abi.specs.contracts.port_of as g
-use Rattle.station_abi.proofs.port_of.Met.{met}
+use Rattle.device_station.specs.port.Served.{Served}
+use Rattle.device_station.specs.contracts.port.served.Port.{the_row as R}
+use Rattle.device_station.proofs.port.served.Port.TheLaws.{the_row_laws as port_laws}
+use Rattle.device_abi.specs.Made.{IsMade}
+use Rattle.device_abi.specs.Stations.{is_station}
+use Rattle.device_abi.specs.contracts.c_station.Station.{the_row as S}
+use Rattle.device_abi.specs.contracts.port_of as g
+use Rattle.device_abi.proofs.port_of.Met.{met}
 use Rattle.nandutable.specs.contracts.pn_put as f
 use Rattle.nandutable.proofs.pn_put.Statement.{statement}
 use Rattle.nandutable.proofs.pn_put.Code as code
@@ -67,7 +67,7 @@ pn_put_spec 𝓤 𝓛 𝓜 𝓡 wired =
     let z : G.Ghost = (((κ, tt), (qs.0, tt), tt, (station, tt), (shr_vals station, tt)), tt) in
     nothing ! $ move ! (2 ∷ 0 ∷ []) $ join ! $ move ! (2 ∷ 0 ∷ []) $ join ! $
     use0 𝓛 (raw (fact 𝓤 (is_station station.now ≡ true))) (fact_i 𝓤 _ _ fits) $ move ! (1 ∷ 0 ∷ []) $ use2 𝓛 (raw (G.pre z)) (id⊢ 𝓤 _) $
-    calls_at ! (framed 𝓤 𝓛.H 𝓜 𝓣) G (met 𝓤 𝓛 𝓜 𝓡 (code.calls-station_abi::port_of 𝓡.env wired)) z (and_then ! (get ! refl) (no_more !)) (λ v.
+    calls_at ! (framed 𝓤 𝓛.H 𝓜 𝓣) G (met 𝓤 𝓛 𝓜 𝓡 (code.calls-device_abi::port_of 𝓡.env wired)) z (and_then ! (get ! refl) (no_more !)) (λ v.
     use1 𝓛 (later (some (λ (port : Served). (Tokens ⊛ ‵ (R.own_val port (v ∷ []))) ⊛
     some (λ (ws : Unit {0} × Unit {0}). ‵ (lasts g.ended z.0.0 z.0.3 ws) ⊛ raw (fact 𝓤 (IsMade station.now port)))))) (id⊢ 𝓤 _) $
     await ! tt $ pick ! (λ port. split ! $ split ! $

@@ -31,12 +31,12 @@ use denote.Triple.Clauses.{lasts}
 use denote.Triple.Spec.{triple_of}
 use denote.Triple.Table.{framed}
 use denote.Triple.Walked.{Stays, walk_of, says, stay_dropped, gave_ref, Goes-dropped, Goes-gave_ref, ends_at}
-use Rattle.device_abi.specs.port.Served.{Served}
-use Rattle.station_abi.specs.Serves.{Serves, operation_of}
+use Rattle.device_station.specs.port.Served.{Served}
+use Rattle.device_abi.specs.Serves.{Serves, operation_of}
 use Rattle.c_layout.specs.contracts.op.Op.{the_row as O}
-use Rattle.device_abi.specs.contracts.port.served.Port.{the_row as R}
-use Rattle.station_abi.specs.contracts.serve as g
-use Rattle.station_abi.proofs.serve.Met.{met}
+use Rattle.device_station.specs.contracts.port.served.Port.{the_row as R}
+use Rattle.device_abi.specs.contracts.serve as g
+use Rattle.device_abi.proofs.serve.Met.{met}
 use Rattle.nandutable.specs.contracts.pn_step as f
 use Rattle.nandutable.proofs.pn_step.Statement.{statement}
 use Rattle.nandutable.proofs.pn_step.Code as code
@@ -82,7 +82,7 @@ pn_step_spec 𝓤 𝓛 𝓜 𝓡 wired =
     let z : G.Ghost = (((α ∷ [], (κ, (η, tt))), (full_share, (qs.0, (qs.1.0, tt))), tt, (loan, a.1), (mut_vals loan, (mut_vals op, (shr_slice_vals given, tt)))), tt) in
     nothing ! $ move ! (6 ∷ 0 ∷ []) $ join ! $ move ! (5 ∷ 0 ∷ []) $ join ! $ move ! (1 ∷ 0 ∷ []) $ join ! $
     move ! (2 ∷ 3 ∷ []) $ join ! $ join ! $ nothing ! $ move ! (1 ∷ 0 ∷ []) $ use2 𝓛 (raw (G.pre z)) (id⊢ 𝓤 _) $
-    calls_at ! (framed 𝓤 𝓛.H 𝓜 𝓣) G (met 𝓤 𝓛 𝓜 𝓡 (code.calls-station_abi::serve 𝓡.env wired)) z (and_then ! (get ! refl) (and_then ! (get ! refl) (and_then ! (get ! refl) (no_more !)))) (λ v.
+    calls_at ! (framed 𝓤 𝓛.H 𝓜 𝓣) G (met 𝓤 𝓛 𝓜 𝓡 (code.calls-device_abi::serve 𝓡.env wired)) z (and_then ! (get ! refl) (and_then ! (get ! refl) (and_then ! (get ! refl) (no_more !)))) (λ v.
     use1 𝓛 (later (some (λ (r : ℕ). ((‵ (flft (α ∷ []) full_share) ⊛ Tokens) ⊛ ‵ (u32.own_val r (v ∷ []))) ⊛
     some (λ (ws : Served × (O.Denot × (Unit {0} × Unit {0}))). ‵ (lasts g.ended z.0.0 z.0.3 ws) ⊛ raw (fact 𝓤 (IsServed r ws.0 ws.1.0)))))) (id⊢ 𝓤 _) $
     await ! tt $ pick ! (λ r. split ! $ split ! $ split ! $ lft_end ! tt $

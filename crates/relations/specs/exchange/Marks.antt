@@ -1,5 +1,6 @@
 -- Why the IOPS that a device sends are not good.
-use Rattle.std.specs.Prelude.{◌&&◌, ◌||◌, ℕ, Bool, false, not, nat_lt, List, [], ◌∷◌, map, Option, Some, None, if◌then◌else◌}
+use Rattle.std.specs.List.{AllByRecursion}
+use Rattle.std.specs.Prelude.{◌≡◌, ◌&&◌, ◌||◌, ℕ, Bool, false, not, nat_lt, List, [], ◌∷◌, map, Option, Some, None, if◌then◌else◌}
 use Rattle.wire.specs.blocks.modules.Lists.{Listed}
 use Rattle.connect_blocks.specs.declared.module_diff.DiffModule.{DiffModule}
 use Rattle.connect_blocks.specs.declared.module_diff.DiffSubmodule.{DiffSubmodule}
@@ -56,6 +57,14 @@ is_awaited_in (Some mark) = mark.is_awaited
 -- Whether the submodule in this slot and subslot waits for its first value.
 abbrev pub awaits : ℕ → ℕ → List Mark → Bool
 awaits slot subslot marks = is_awaited_in (mark_at slot subslot marks)
+
+-- No first input is awaited.
+abbrev pub NoneAwaited : List Mark → Type 0
+NoneAwaited marks = AllByRecursion (λ mark. mark.is_awaited ≡ false) marks
+
+-- None is, unless one may be.
+abbrev pub MayAwait : Bool → List Mark → Type 0
+MayAwait may_await marks = may_await ≡ false → NoneAwaited marks
 
 -- A mark after an input was given, or after a status.
 abbrev pub change_by : Option Bool → Mark → Mark

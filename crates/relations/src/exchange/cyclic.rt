@@ -1,6 +1,9 @@
 //! Cyclic frames, and the units of time.
-ghost use Rattle.std.specs.Prelude.{◌≡◌, ◌≢◌, ◌+◌, ◌<◌, ◌≤◌, false};
+ghost use Rattle.std.specs.Prelude.{◌≡◌, ◌≢◌, ◌+◌, ◌-◌, ◌<◌, ◌≤◌, false, true};
 ghost use Rattle.pn_alarms.specs.Leaps.{after};
+ghost use Rattle.cyclic_data.specs.Leaps.{frame_due_in};
+ghost use Rattle.cyclic_data.specs.exchange.Leaps.{cyclic_due_in, frame_alone, silent_in};
+ghost use Rattle.relations.specs.exchange.Calm.{IsCalm, is_calm};
 ghost use Rattle.relations.specs.exchange.Flow.{state_of};
 ghost use Rattle.relations.specs.exchange.Leaps.{BringNothing, flow_due_in};
 ghost use Rattle.relations.specs.exchange.Received.{behind_frame, received_as};
@@ -107,5 +110,45 @@ impl DataExchange {
         self.cyclic.pass(units);
         self.alarms.pass(units);
         self.low.pass(units);
+    }
+
+    /// Whether no process alarm is open, and no alarm of either priority waits for its ACK.
+    pub fn is_calm(&self) -> bool
+        ensures { result ≡ is_calm self.now }
+    {
+        !self.alarms.is_waiting() && !self.low.is_waiting() && self.alarms.standing().is_none()
+    }
+
+    /// Counts several units of 31.25 microseconds at once, if the alarms have nothing to do. With none of them may a frame of
+    /// inputs be due or the data hold time be over.
+    #[inline(always)]
+    pub fn pass_calm(&mut self, units: u32)
+        requires calm { IsCalm self.old }
+        requires few { units < cyclic_due_in self.old.cyclic }
+        ensures state { self.new ≡ after flow_later units self.old }
+        ensures nothing { BringNothing units self.old }
+        ensures calm { IsCalm self.new }
+        // The next frame comes nearer by these units, and the end of the data hold time by no more.
+        ensures frame { frame_due_in self.old.cyclic.sending ≡ frame_due_in self.new.cyclic.sending + units }
+        ensures held { silent_in self.old.cyclic ≤ silent_in self.new.cyclic + units }
+    {
+        self.cyclic.pass(units);
+    }
+
+    /// The same up to the next unit with which a frame of inputs is due. With none of them may the data hold time be over.
+    #[inline(always)]
+    pub fn send_calm(&mut self, units: u32)
+        requires calm { IsCalm self.old }
+        requires due { units ≡ frame_due_in self.old.cyclic.sending }
+        requires held { units < silent_in self.old.cyclic }
+        ensures state { self.new ≡ after flow_later units self.old }
+        ensures nothing { BringNothing (units - 1) self.old }
+        ensures some { 0 < units }
+        // Only a frame is due with the last one.
+        ensures last { tick_of (after flow_later (units - 1) self.old) ≡ frame_alone }
+        ensures calm { IsCalm self.new }
+    {
+        self.cyclic.send(units);
+        self.state_sent = self.state();
     }
 }

@@ -1,7 +1,8 @@
 //! The data exchange of a relation.
-ghost use Rattle.std.specs.Prelude.{◌≡◌, ◌<◌, ◌≤◌, IfSome, None, [], false, is_some, length, option_map, unwrap_or};
+ghost use Rattle.std.specs.Prelude.{◌≡◌, ◌<◌, ◌≤◌, ◌||◌, IfSome, None, [], false, is_some, length, option_map, unwrap_or};
 ghost use Rattle.relations.specs.exchange.Opening.{begun_of, opened};
 ghost use Rattle.relations.specs.exchange.Process.{given_at, output_at, rated_at, remarked, turned};
+ghost use Rattle.relations.specs.exchange.Marks.{awaits as awaits_in};
 ghost use Rattle.relations.specs.exchange.Modules.{all_cleared, modules_restated, renewed, restated_flow};
 
 use crate::exchange::marks::{Mark, Starting, awaits, begin, change, iops_in, renew, restate};
@@ -25,6 +26,8 @@ pub struct DataExchange {
     pub(crate) low: DiagnosisAlarms,
     /// Why the IOPS of inputs are not good, for each place.
     pub(crate) marks: ArrayVec<Mark, 128>,
+    /// Whether a first input may be awaited.
+    pub(crate) may_await: bool,
     /// Whether the application runs (`true`) or is stopped.
     pub(crate) is_running: bool,
     /// What the last frame of inputs said of the station.
@@ -33,13 +36,17 @@ pub struct DataExchange {
     pub(crate) endpoint: u16,
 }
 
-// Its model: one value for each place, and the states of the sender and of the receiver.
+// Its model: one value for each place, and the states of the sender and of the receiver. No first input is awaited unless one may be.
 impl Model for DataExchange {
     ghost use Rattle.relations.specs.exchange.Flow.{Flow};
 
     ghost Value = { Flow };
 
+    ghost use Rattle.relations.specs.exchange.Marks.{MayAwait};
+
     ghost view = { λ exchange. record { cyclic = exchange.cyclic; alarms = exchange.alarms; low = exchange.low; marks = exchange.marks.items; is_running = exchange.is_running; state_sent = exchange.state_sent; endpoint = exchange.endpoint } };
+
+    ghost invariant = { λ exchange. MayAwait exchange.may_await exchange.marks.items };
 }
 
 impl DataExchange {
@@ -56,6 +63,7 @@ impl DataExchange {
             alarms: DeviceAlarms::new(1, 1),
             low: DiagnosisAlarms::new(),
             marks: ArrayVec::new(),
+            may_await: false,
             is_running: true,
             state_sent: StationState::in_order(),
             endpoint: 1,
@@ -72,6 +80,7 @@ impl DataExchange {
     {
         let (input, output, alarm) = (request.input(), request.output(), request.alarm());
         begin(&mut self.marks, input.layout.places(), rows, starting);
+        self.may_await = starting.begin_bad;
         self.cyclic.open(
             route_of(starting.number, request),
             Provider::start(input.send_clock_factor, input.reduction_ratio),
@@ -136,10 +145,21 @@ impl DataExchange {
         if !self.cyclic.give(slot, subslot, value) {
             return false;
         }
-        if awaits(self.marks.as_slice(), slot, subslot) {
+        if self.awaits(slot, subslot) {
             self.remark(slot, subslot, None);
         }
         true
+    }
+
+    /// Whether the first input of a submodule is awaited. Nearly always none is.
+    #[inline(always)]
+    fn awaits(&self, slot: u16, subslot: u16) -> bool
+        ensures { result ≡ awaits_in slot subslot self.now.marks }
+    {
+        if !self.may_await {
+            return false;
+        }
+        awaits(self.marks.as_slice(), slot, subslot)
     }
 
     /// Says that the inputs of a submodule are good or bad from now on. The IOPS follows.
@@ -177,6 +197,7 @@ impl DataExchange {
     pub fn renew(&mut self, affected: Affected, begin_bad: bool)
         ensures { self.new ≡ renewed affected begin_bad self.old }
     {
+        self.may_await = either(self.may_await, begin_bad);
         renew(self.marks.as_mut_slice(), affected, begin_bad);
         clear_inputs(&mut self.cyclic, self.marks.as_slice(), affected);
     }
@@ -200,6 +221,13 @@ impl DataExchange {
     {
         self.cyclic.value(slot, subslot)
     }
+}
+
+/// Whether one of these is true.
+fn either(one: bool, other: bool) -> bool
+    ensures { result ≡ (one || other) }
+{
+    one || other
 }
 
 /// Sets the inputs of affected places to zeros.

@@ -8,9 +8,9 @@
 //!
 //! Octets are in hex. It prints `out OCTETS` for each frame that is sent, and then `done`.
 use device_core::{Device, Event, Octets};
+use device_station::{IoStation, StationOutbox};
 use flash_model::MemoryFlash;
 use pn_values::{demo_identity, demo_modules};
-use station::{IoStation, StationOutbox};
 use std::io::{self, BufRead, ErrorKind, Write};
 
 /// Octets of a sector of its flash.

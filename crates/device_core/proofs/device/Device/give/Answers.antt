@@ -23,3 +23,8 @@ returns-clause-note g c =
           let none : is_some flow ≡ false = rw (← c.self.view_is) (sym c.give.ensures.done ∙ w.if-give.false) in
           w.result-is ∙ sym (input_refused old.station old.live flow none)
     ]
+
+pub returns-clause-steady : goal.returns-clause-steady
+returns-clause-steady g c steady is =
+    let old = rw (← c.self.view_is) at is in
+    record { relation = c.give.ensures.steady steady old.relation; unasked = old.unasked; dark = old.dark }

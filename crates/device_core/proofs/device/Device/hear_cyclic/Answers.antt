@@ -18,3 +18,8 @@ returns-clause-note g c =
     let said : c.note_of.result ≡ (end_of old.station old.live (handled_received old.live c.receive-received.result (updated (receiving c.args.source c.args.frame_id c.args.body.now old.live.rest.link) old.live.rest.link))).note =
     c.note_of.ensures old.station old.live _ in
     rw (← c.self.view_is) (rw (← c.receive-received.ensures.received) (rw (← c.self.view_is) at said))
+
+pub returns-clause-steady : goal.returns-clause-steady
+returns-clause-steady g c steady is =
+    let old = rw (← c.self.view_is) at is in
+    record { relation = c.receive-received.ensures.steady steady old.relation; unasked = old.unasked; dark = old.dark }

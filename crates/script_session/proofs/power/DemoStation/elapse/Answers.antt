@@ -1,7 +1,7 @@
 -- Several units at once, beside services or without.
 use Rattle.std.proofs.Common.{◌≡◌, replicate, Option, Some, None, sym, subst}
 use Rattle.device_frames.specs.declared.event.Event.TheVariants as event
-use Rattle.station.specs.Serving.{Serving}
+use Rattle.device_station.specs.Serving.{Serving}
 use Rattle.script_session.specs.Ends.{device_run}
 use Rattle.script_session.specs.Power.{Runs}
 use Rattle.script_session.specs.Session.{IsLeapt}

@@ -1,6 +1,6 @@
 -- A step beside services.
 use Rattle.std.proofs.Common.{◌≡◌, Option, Some, None, refl, sym, subst}
-use Rattle.station.specs.Serving.{Serving}
+use Rattle.device_station.specs.Serving.{Serving}
 use Rattle.script_session.specs.Power.{Runs}
 use Rattle.script_session.proofs.Begins.{running_of}
 use Rattle.script_session.proofs.Stepping.{stepped}

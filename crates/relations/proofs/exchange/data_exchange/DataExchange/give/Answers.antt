@@ -11,5 +11,5 @@ returns-then-awaits-clause-state c =
     let flow : Flow = record { cyclic = c.self.inside.cyclic; alarms = c.self.inside.alarms; low = c.self.inside.low; marks = c.self.inside.marks.items; is_running = c.self.inside.is_running; state_sent = c.self.inside.state_sent; endpoint = c.self.inside.endpoint } in
     let given = cyclic_given flow.cyclic c.args.slot c.args.subslot c.args.value.now in
     let is : is_some given ≡ true = sym c.give.ensures.done ∙ c.if-not-give.false in
-    let first : awaits c.args.slot c.args.subslot flow.marks ≡ true = rw c.as_slice.ensures.value at (sym c.awaits.ensures ∙ c.if-awaits.true) in
+    let first : awaits c.args.slot c.args.subslot flow.marks ≡ true = sym c.awaits.ensures ∙ c.if-awaits.true in
     rw (← c.self.view_is, c.remark.ensures, c.give.ensures.state) (given_first flow c.args.slot c.args.subslot given is first)

@@ -1,0 +1,12 @@
+pub mod Tests
+pub mod Opened
+pub mod Lists
+pub mod Pdus
+pub mod KindCases
+pub mod Listed
+pub mod Spelled
+pub mod Packets
+pub mod Heard
+pub mod Sends
+pub mod Calls
+pub mod Law

@@ -1,0 +1,9 @@
+-- The sector of the number.
+use Rattle.std.proofs.Common.{refl, sym}
+use Rattle.device_abi.proofs.serving.fill.Goals as goal
+
+pub returns-in-Some : goal.returns-in-Some
+returns-in-Some c = rw (sym c.in-Some.ensures) (c.fill.result, c.fill.ensures, c.done.ensures)
+
+pub returns-in-None : goal.returns-in-None
+returns-in-None c = rw (sym c.in-None.ensures) (refl, refl)

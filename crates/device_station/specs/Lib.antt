@@ -1,0 +1,10 @@
+pub mod Serving
+pub mod State
+pub mod Beside
+pub mod Steps
+pub mod Runs
+pub mod Leaps
+pub mod Views
+pub mod recorded
+pub mod recording
+pub mod port

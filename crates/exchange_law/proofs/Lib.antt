@@ -1,0 +1,6 @@
+pub mod Frames
+pub mod Turns
+pub mod Units
+pub mod Values
+pub mod Along
+pub mod Runs

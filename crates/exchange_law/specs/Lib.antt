@@ -1,0 +1,4 @@
+pub mod Told
+pub mod Interval
+pub mod Outputs
+pub mod Run

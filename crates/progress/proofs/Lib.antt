@@ -1,9 +1,0 @@
-pub mod Bounds
-pub mod Weight
-pub mod Late
-pub mod Sends
-pub mod Clean
-pub mod Start
-pub mod Again
-pub mod Measure
-pub mod Any

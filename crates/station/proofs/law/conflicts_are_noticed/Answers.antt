@@ -1,5 +1,0 @@
-use Rattle.station.proofs.Answered.{conflicts_are_noticed}
-use Rattle.station.proofs.law.conflicts_are_noticed.Goals as goal
-
-pub returns : goal.returns
-returns c = conflicts_are_noticed

@@ -1,9 +1,0 @@
--- What is asked, or why nothing is reported.
-use Rattle.std.proofs.Common.{refl}
-use Rattle.station_abi.proofs.asking.tell_asked.Goals as goal
-
-pub returns-in-Ok : goal.returns-in-Ok
-returns-in-Ok c = rw c.in-Ok.ensures.0 (rw (← c.in-Ok.ensures.1) c.tell_question.ensures)
-
-pub returns-in-Err : goal.returns-in-Err
-returns-in-Err c = rw c.in-Err.ensures (c.number.ensures, refl)

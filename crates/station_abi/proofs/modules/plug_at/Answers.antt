@@ -1,9 +1,0 @@
--- The octets describe a submodule, or not.
-use Rattle.std.proofs.Common.{refl, sym}
-use Rattle.station_abi.proofs.modules.plug_at.Goals as goal
-
-pub returns-in-Some : goal.returns-in-Some
-returns-in-Some c = rw (sym c.in-Some.ensures) c.plug_one.ensures
-
-pub returns-in-None : goal.returns-in-None
-returns-in-None c = rw (sym c.in-None.ensures) (refl, refl, refl)

@@ -1,9 +1,0 @@
--- What is known of a place.
-use Rattle.std.proofs.Common.{refl, sym}
-use Rattle.station_abi.proofs.serving.received.Goals as goal
-
-pub returns-in-Some : goal.returns-in-Some
-returns-in-Some c = rw (sym c.in-Some.ensures) c.tell_received.ensures
-
-pub returns-in-None : goal.returns-in-None
-returns-in-None c = rw (sym c.in-None.ensures) (refl, refl)

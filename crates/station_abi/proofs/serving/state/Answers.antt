@@ -1,6 +1,0 @@
--- Phase and lamp, or why they are not reported.
-use Rattle.std.proofs.Common.{refl}
-use Rattle.station_abi.proofs.serving.state.Goals as goal
-
-pub returns-in-Err : goal.returns-in-Err
-returns-in-Err c = rw c.in-Err.ensures (c.number.ensures, refl)

@@ -1,9 +1,0 @@
--- What the controller says of an output, or why it is not reported.
-use Rattle.std.proofs.Common.{refl}
-use Rattle.station_abi.proofs.serving.tell_provider.Goals as goal
-
-pub returns-in-Ok : goal.returns-in-Ok
-returns-in-Ok c = rw c.in-Ok.ensures.0 (rw (← c.in-Ok.ensures.1) c.tell_statuses.ensures)
-
-pub returns-in-Err : goal.returns-in-Err
-returns-in-Err c = rw c.in-Err.ensures (c.number.ensures, refl)

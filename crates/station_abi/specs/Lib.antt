@@ -1,6 +1,0 @@
-pub mod Confirmed
-pub mod Made
-pub mod Reasons
-pub mod Serves
-pub mod Stations
-pub mod Submodules
