@@ -502,7 +502,8 @@ fn planned(written: &WrittenPlan) -> Plan
     Plan::judged(parts_in(written))
 }
 
-// The parts of the plan, each in its range.
+// The parts of the plan, each in its range. It is inlined for the same reason.
+#[inline(always)]
 fn parts_in(written: &WrittenPlan) -> Parts
     requires { IsWritten written.now }
     ensures value { result ≡ parts_of written.now }

@@ -63,7 +63,7 @@ fn station() -> Station {
 fn fault(change: fn(&mut Station)) -> u32 {
     let mut station = station();
     change(&mut station);
-    judge(77312, 10, 1680, &station)
+    judge(77312, 11, 1680, &station)
 }
 
 #[test]
@@ -131,7 +131,7 @@ fn each_fault_has_its_number() {
 #[test]
 fn another_header_or_a_small_room() {
     let station = station();
-    for (size, abi, op_size, wanted) in [(77312, 9, 1680, 2), (77312, 11, 1680, 2), (77312, 10, 1676, 2), (77311, 10, 1680, 3)] {
+    for (size, abi, op_size, wanted) in [(77312, 10, 1680, 2), (77312, 12, 1680, 2), (77312, 11, 1676, 2), (77311, 11, 1680, 3)] {
         assert_eq!(judge(size, abi, op_size, &station), wanted);
     }
 }
