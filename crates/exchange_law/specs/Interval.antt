@@ -66,6 +66,12 @@ IsOnTime times before one = length (cyclic_in one.sent) ≡ (if is_due times bef
 
 -- ---- the FrameID that the device chooses
 
+-- An IOCRBlockRes of outputs is at a place of these octets (IEC 61158-6-10, 5.2.4): BlockType 0x8102, and after BlockLength and version
+-- IOCRType 2.
+pub record IsOutputsBlock (place : ℕ) (octets : List ℕ) : Type 0 where
+  pub block_type : word_at place octets ≡ 0x8102
+  pub iocr_type : word_at (place + 6) octets ≡ 2
+
 -- If this is a response that grants a Connect, it chooses a FrameID of cyclic data for the outputs.
 abbrev pub ChoosesCyclic : Heard → Type 0
 ChoosesCyclic (Responds response) = (chosen : Chosen) → chosen_in response.blocks ≡ Some chosen → is_cyclic_id chosen.frame_id ≡ true

@@ -13,6 +13,7 @@ use Rattle.exchange_law.specs.Interval.{BeginsWell, IsOnTime}
 use Rattle.exchange_law.specs.Outputs.{CarriesWhatIsGiven}
 use Rattle.exchange_law.specs.Run.{Runs, told_of}
 use Rattle.exchange_law.proofs.Along.{all_carry, all_on_time, cancel, events_told}
+use Rattle.exchange_law.proofs.Chosen.{named_there}
 use Rattle.exchange_law.proofs.controller.controller_exchanges.Goals as goal
 
 -- The controller that was just started.
